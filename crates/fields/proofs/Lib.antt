@@ -1,0 +1,6 @@
+pub mod Rings
+pub mod Remainders
+pub mod Residues
+pub mod Tables
+pub mod Primes
+pub mod Inverses

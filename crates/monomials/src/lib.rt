@@ -1,0 +1,4 @@
+// Monomials.
+mod monomial;
+
+pub use monomial::Monomial;
