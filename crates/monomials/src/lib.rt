@@ -2,3 +2,4 @@
 mod monomial;
 
 pub use monomial::Monomial;
+pub use monomial::MonomialDebug;

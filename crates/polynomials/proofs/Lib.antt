@@ -1,0 +1,5 @@
+pub mod Polynomials
+pub mod Subjects
+pub mod Wrapping
+pub mod Arrays
+pub mod Terms

@@ -1,0 +1,4 @@
+pub mod Polynomials
+pub mod Subjects
+pub mod Arrays
+pub mod Terms

@@ -1,0 +1,11 @@
+// Subjects: what polynomials are checked against.
+mod checking;
+mod periodic;
+mod subject;
+
+pub use checking::Finding;
+pub use checking::check;
+pub use checking::polynomial_image;
+pub use periodic::PeriodicArray;
+pub use periodic::PeriodicSubject;
+pub use subject::Subject;
