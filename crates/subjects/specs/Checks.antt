@@ -1,7 +1,9 @@
 -- What a check of a polynomial against a subject answers.
 use mathlib.Core.Path.{_≡_}
-use mathlib.Core.List.{List}
+use mathlib.Core.List.{List, _++_}
 use Prim.Native.Nat.{ℕ, _<_}
+use lib.Chars.{codes}
+use Rattle.std.specs.Written.{decimal}
 use Rattle.std.specs.declared.result.Result.{Result}
 use Rattle.std.specs.declared.result.Result.the-variants.{Ok, Err}
 use Rattle.faults.specs.Places.{First-at, None-at}
@@ -27,3 +29,8 @@ Checked S A ts (Err (Exponent i)) = None-at (Term-code-fault (A .order) ts) × F
 Checked S A ts (Err (Subject fault)) = ⊥
 Checked S A ts (Ok Holds) = Terms-admitted (S .variables) (A .order) ts × Annihilates S A (poly ts)
 Checked S A ts (Ok (Fails k)) = Terms-admitted (S .variables) (A .order) ts × Failing-position S A (poly ts) k
+
+-- the words in which a finding is printed
+abbrev pub finding-text : Finding → List ℕ
+finding-text Holds = codes "holds everywhere"
+finding-text (Fails k) = codes "fails at position " ++ decimal k

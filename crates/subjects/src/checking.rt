@@ -1,6 +1,7 @@
 // Whether a polynomial annihilates a subject.
 ghost use mathlib.Core.Path.{_≡_};
-ghost use Rattle.subjects.specs.Checks.{Checked};
+ghost use Rattle.std.specs.declared.option.Option.the-variants.{Some};
+ghost use Rattle.subjects.specs.Checks.{Checked, finding-text};
 ghost use Rattle.polynomials.specs.Subjects.{image-of};
 ghost use Rattle.polynomials.specs.Terms.{poly};
 use crate::subject::Subject;
@@ -9,6 +10,7 @@ use fields::Field;
 use polynomials::Term;
 use polynomials::first_code_outside;
 use polynomials::first_exponent_outside;
+use std::fmt;
 
 #[derive(Clone, Copy, PartialEq, Eq, Debug)]
 pub enum Finding {
@@ -33,6 +35,18 @@ pub fn polynomial_image<S: Subject, F: Field>(
         sum = field.sum(sum, field.product(term.code, image));
     }
     sum
+}
+
+// Printed as `holds everywhere`, or `fails at position P`.
+pub impl fmt::Display for Finding as FindingDisplay {
+    ghost shown = { λ finding. Some (finding-text finding) };
+
+    fn fmt<W: fmt::Write>(&self, f: &mut fmt::Formatter<W>) -> fmt::Result {
+        match self {
+            Finding::Holds => f.write_str("holds everywhere"),
+            Finding::Fails(position) => write!(f, "fails at position {position}"),
+        }
+    }
 }
 
 // Whether the polynomial annihilates the subject; if not, a position where its image is not zero.

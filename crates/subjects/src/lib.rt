@@ -4,6 +4,9 @@ mod periodic;
 mod subject;
 
 pub use checking::Finding;
+pub use checking::FindingDebug;
+pub use checking::FindingDisplay;
+pub use checking::FindingPartialEq;
 pub use checking::check;
 pub use checking::polynomial_image;
 pub use periodic::PeriodicArray;
