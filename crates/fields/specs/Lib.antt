@@ -1,2 +1,4 @@
 pub mod Arithmetic
+pub mod Tables
 pub mod Residues
+pub mod Binaries
