@@ -52,6 +52,24 @@ plus f g F G x y = ap₂ bitXor (F x y) (G x y) ∙ four (f x) (f y) (g x) (g y)
         xor-assoc a b (bitXor c d) ∙ ap (bitXor a) (sym (xor-assoc b c d) ∙ ap (λ x. bitXor x d) (xor-comm b c) ∙ xor-assoc c b d)
         ∙ sym (xor-assoc a c (bitXor b d))
 
+-- additive in each of two arguments
+pub record Biadditive (f : ℕ → ℕ → ℕ) : Type 0 where
+  pub left : (b : ℕ) → Additive (λ a. f a b)
+  pub right : (a : ℕ) → Additive (f a)
+
+-- functions additive in each argument that agree at the pairs of powers of z agree
+pub agree-twice : (f g : ℕ → ℕ → ℕ) → Biadditive f → Biadditive g → (n : ℕ) →
+    ((i j : ℕ) → i < n → j < n → f (2 ^ i) (2 ^ j) ≡ g (2 ^ i) (2 ^ j)) → (a b : ℕ) → a < 2 ^ n → b < 2 ^ n → f a b ≡ g a b
+agree-twice f g F G n at a b h l =
+    agree (λ x. f x b) (λ x. g x b) (F .left b) (G .left b) n
+    (λ i hi. agree (f (2 ^ i)) (g (2 ^ i)) (F .right (2 ^ i)) (G .right (2 ^ i)) n (λ j hj. at i j hi hj) b l) a h
+
+-- and those that give codes there give codes
+pub closed-twice : (k : ℕ) (f : ℕ → ℕ → ℕ) → Biadditive f → (n : ℕ) →
+    ((i j : ℕ) → i < n → j < n → f (2 ^ i) (2 ^ j) < 2 ^ k) → (a b : ℕ) → a < 2 ^ n → b < 2 ^ n → f a b < 2 ^ k
+closed-twice k f F n at a b h l =
+    closed k (λ x. f x b) (F .left b) n (λ i hi. closed k (f (2 ^ i)) (F .right (2 ^ i)) n (λ j hj. at i j hi hj) b l) a h
+
 -- times a power of z
 pub by-power : (i : ℕ) → Additive (λ x. x * 2 ^ i)
 by-power i x y = sym (
