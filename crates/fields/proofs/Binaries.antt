@@ -1,11 +1,11 @@
 -- The ring laws of a binary field: products are additive on either side, so tests at the powers of z settle them.
 use mathlib.Core.Path.{_≡_, refl, sym, _∙_, ap}
 use mathlib.Core.Bool.{Bool}
-use Prim.Native.Nat.{ℕ, _%_, _^_, _<_}
+use Prim.Native.Nat.{ℕ, _%_, _^_, _<_, _≤_}
 use native.Mathlib.Nat.{mod-lt, mod-mod, mod-eq-of-lt}
 use native.Mathlib.Omega.{arith}
 use lib.Bits.{bitXor, xor-zero-r, xor-comm, xor-assoc, xor-self, xor-mod, xor-lt}
-use lib.Dec.{T, eqb, ltb, eqb→eq, ltb→lt}
+use lib.Dec.{T, eqb, leb, ltb, eqb→eq, leb→le, ltb→lt}
 use lib.Pow.{pow-pos, pow-lt}
 use Rattle.fields.specs.Arithmetic.{Ring-laws}
 use Rattle.fields.specs.Binaries.{degrees, Listed, reduction, times, remainder, binary}
@@ -44,9 +44,6 @@ abbrev associates-at : ℕ → ℕ → ℕ → ℕ → Bool
 associates-at k l i j = eqb (mul k (mul k (2 ^ i) (2 ^ j)) (2 ^ l)) (mul k (2 ^ i) (mul k (2 ^ j) (2 ^ l)))
 
 -- and at all those below z ^ k
-positive : ℕ → Bool
-positive k = ltb 0 k
-
 codes : ℕ → Bool
 codes k = at-pairs k (code-at k)
 
@@ -60,10 +57,6 @@ associates : ℕ → Bool
 associates k = all-below k (λ l. at-pairs k (associates-at k l))
 
 -- every degree passes, computed
-all-positive : T (every positive degrees)
-unfolding positive
-all-positive = tt
-
 all-codes : T (every codes degrees)
 unfolding codes
 all-codes = tt
@@ -80,13 +73,19 @@ all-associate : T (every associates degrees)
 unfolding associates
 all-associate = tt
 
+-- a degree is from 1 to 8
+pub some-degree : (k : ℕ) → Listed k → 0 < k
+some-degree k listed = ltb→lt 0 k (at-entry (ltb 0) k degrees tt listed)
+
+pub small-degree : (k : ℕ) → Listed k → k ≤ 8
+small-degree k listed = leb→le k 8 (at-entry (λ d. leb d 8) k degrees tt listed)
+
 module _ (k : ℕ) (listed : Listed k) where
   pub some-code : 0 < 2 ^ k
   some-code = pow-pos k
 
   pub two-codes : 1 < 2 ^ k
-  unfolding positive
-  two-codes = pow-lt (ltb→lt 0 k (at-entry positive k degrees all-positive listed))
+  two-codes = pow-lt (some-degree k listed)
 
   pub mul-below : (a b : ℕ) → a < 2 ^ k → b < 2 ^ k → mul k a b < 2 ^ k
   unfolding codes

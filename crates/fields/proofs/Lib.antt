@@ -6,3 +6,5 @@ pub mod Primes
 pub mod Inverses
 pub mod Additive
 pub mod Binaries
+pub mod Copies
+pub mod Powers
