@@ -72,8 +72,8 @@ closed-twice k f F n at a b h l =
 
 -- times a power of z
 pub by-power : (i : ℕ) → Additive (λ x. x * 2 ^ i)
-by-power i x y = sym (
-    sym (ap₂ bitXor (add-zero (x * 2 ^ i)) (add-zero (y * 2 ^ i))) ∙ xor-block i x y 0 0 (pow-pos i) (pow-pos i) ∙ add-zero (bitXor x y * 2 ^ i))
+by-power i x y =
+    sym (add-zero (bitXor x y * 2 ^ i)) ∙ sym (xor-block i x y 0 0 (pow-pos i) (pow-pos i)) ∙ ap₂ bitXor (add-zero (x * 2 ^ i)) (add-zero (y * 2 ^ i))
 
 -- times a coefficient
 pub by-digit : (c : ℕ) → c < 2 → Additive (λ x. x * c)

@@ -1,4 +1,4 @@
--- The field of 2 ^ k codes. A code is a polynomial in z over the bits: its binary digit i is the coefficient of z ^ i.
+-- The binary fields. A number stands for a polynomial in z over the bits: its binary digit i is the coefficient of z ^ i.
 use mathlib.Core.Bool.{cond}
 use mathlib.Core.List.{List, [], _∷_}
 use Prim.Native.Nat.{ℕ, zero, suc, _+_, _*_, _/_, _%_, _^_}
@@ -15,7 +15,7 @@ degrees = 2 ∷ 3 ∷ 4 ∷ 8 ∷ []
 abbrev pub Listed : ℕ → Type 0
 Listed k = T (among k degrees)
 
--- the polynomial of degree k that products are reduced by: z ^ k + z + 1, but z ^ 8 + z ^ 4 + z ^ 3 + z + 1 for 8
+-- the polynomial of degree k that products are reduced by: z ^ k + z + 1, but for degree 8 z ^ 8 + z ^ 4 + z ^ 3 + z + 1
 abbrev pub reduction : ℕ → ℕ
 reduction k = cond (eqb k 8) (2 ^ 8 + 2 ^ 4 + 2 ^ 3 + 2 + 1) (2 ^ k + 2 + 1)
 
@@ -23,17 +23,17 @@ reduction k = cond (eqb k 8) (2 ^ 8 + 2 ^ 4 + 2 ^ 3 + 2 + 1) (2 ^ k + 2 + 1)
 abbrev pub coefficient : ℕ → ℕ → ℕ
 coefficient i p = p / 2 ^ i % 2
 
--- the product of a and the n lowest terms of b: the sum of a · z ^ i for each z ^ i among them
+-- the product of a and the terms of b below z ^ n: the sum of a · z ^ i over the terms z ^ i
 abbrev pub times : ℕ → ℕ → ℕ → ℕ
 times zero a b = 0
 times (suc i) a b = bitXor (times i a b) (a * 2 ^ i * coefficient i b)
 
--- the remainder by m of degree k, where p has terms below z ^ (k + n): m · z ^ i takes away z ^ (k + i), the highest first
+-- the remainder of p, with terms below z ^ (k + n), by m of degree k: long division, where m · z ^ i takes z ^ (k + i) away, the highest first
 abbrev pub remainder : ℕ → ℕ → ℕ → ℕ → ℕ
 remainder k m zero p = p
 remainder k m (suc i) p = remainder k m i (bitXor p (m * 2 ^ i * coefficient (k + i) p))
 
--- sums of coefficients, which are their own negatives, and products of polynomials by their remainders
+-- sums by coefficients, each its own negative; products of polynomials, reduced; a number at or above 2 ^ k counts as its remainder by 2 ^ k
 abbrev pub binary : ℕ → Arithmetic
 binary k = record {
   order = 2 ^ k;
