@@ -82,14 +82,13 @@ order-fits k listed = one-shl k 16 (omega (arith, small-degree k listed))
 
 -- and a code times a coefficient fits them
 pub term-fits : (k : ℕ) → Listed k → (x n : ℕ) → x < 2 ^ k → x * bitAnd n 1 < 65536
-term-fits k listed x n h =
-    rw (and-mask n 1) (lt-of-le-of-lt (mul-le-mul-left x (digit-le n)) (omega (arith, h, pow-le-8)))
+term-fits k listed x n h = rw (and-mask n 1) (lt-of-le-of-lt (mul-le-mul-left x bit) (omega (arith, order)))
   where
-    digit-le : (n : ℕ) → n % 2 ≤ 1
-    digit-le n = omega arith
+    bit : n % 2 ≤ 1
+    bit = omega arith
 
-    pow-le-8 : 2 ^ k ≤ 256
-    pow-le-8 = pow-mono (small-degree k listed)
+    order : 2 ^ k ≤ 256
+    order = pow-mono (small-degree k listed)
 
 module _ (k : ℕ) (listed : Listed k) where
   by-z-below : (x : ℕ) → x < 2 ^ k → by-z k x < 2 ^ k
