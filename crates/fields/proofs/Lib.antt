@@ -4,3 +4,7 @@ pub mod Residues
 pub mod Tables
 pub mod Primes
 pub mod Inverses
+pub mod Additive
+pub mod Binaries
+pub mod Copies
+pub mod Powers

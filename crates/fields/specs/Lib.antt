@@ -1,3 +1,5 @@
 pub mod Arithmetic
 pub mod Codes
+pub mod Tables
 pub mod Residues
+pub mod Binaries

@@ -1,8 +1,11 @@
-// Fields of codes: the trait, and the residues by a prime modulus.
+// Fields of codes: the trait, the residues by a prime modulus, and the binary fields.
+mod binary;
 mod codes;
 mod field;
 mod residue;
 
+pub use binary::Binary;
+pub use binary::BinaryField;
 pub use codes::first_outside;
 pub use field::Field;
 pub use residue::Residue;
