@@ -1,14 +1,13 @@
 -- Places at fault. Each ground is tested over all its places before the next ground, and names the first.
 use mathlib.Core.List.{List}
 use Prim.Native.Nat.{ℕ, _<_}
-use lib.ListN.{length}
-use Rattle.std.specs.Places.{At}
+use lib.ListN.{length, getD}
 use Rattle.std.specs.declared.option.Option.{Option}
 use Rattle.std.specs.declared.option.Option.the-variants.{Some, None}
 
--- what stands at a place of the list is at fault
-abbrev pub Faulty : {X : Type 0} → (X → Type 0) → List X → ℕ → Type 0
-Faulty Fault xs i = (i < length xs) × At Fault xs i
+-- the element at a place of the list is at fault; the blank stands past the end of a list
+abbrev pub Faulty : {X : Type 0} → X → (X → Type 0) → List X → ℕ → Type 0
+Faulty blank Fault xs i = (i < length xs) × Fault (getD xs i blank)
 
 -- no place is at fault
 abbrev pub None-at : (ℕ → Type 0) → Type 0

@@ -46,7 +46,7 @@ pub impl Fault for SubjectFault as SubjectRefuses {
 pub impl From<ArithmeticFault> for SubjectFault as SubjectFromArithmetic {
     ghost converts = { λ fault r. r ≡ Arithmetic fault };
 
-    fn from(fault: ArithmeticFault) -> SubjectFault {
-        SubjectFault::Arithmetic(fault)
+    fn from(below: ArithmeticFault) -> SubjectFault {
+        SubjectFault::Arithmetic(below)
     }
 }

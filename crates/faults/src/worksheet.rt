@@ -40,7 +40,7 @@ pub impl Fault for WorksheetFault as WorksheetRefuses {
 pub impl From<SubjectFault> for WorksheetFault as WorksheetFromSubject {
     ghost converts = { λ fault r. r ≡ Subject fault };
 
-    fn from(fault: SubjectFault) -> WorksheetFault {
-        WorksheetFault::Subject(fault)
+    fn from(below: SubjectFault) -> WorksheetFault {
+        WorksheetFault::Subject(below)
     }
 }

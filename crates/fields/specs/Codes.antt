@@ -5,4 +5,4 @@ use Rattle.faults.specs.Places.{Faulty}
 
 -- the code at a place is not below the order
 abbrev pub Code-fault : ℕ → List ℕ → ℕ → Type 0
-Code-fault order codes = Faulty (λ code. order ≤ code) codes
+Code-fault order codes = Faulty 0 (λ code. order ≤ code) codes

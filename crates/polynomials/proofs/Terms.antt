@@ -1,6 +1,6 @@
 -- Terms: when their exponents are admitted, and what they give from a place on.
 use mathlib.Core.Path.{_≡_, sym, _∙_, ap}
-use mathlib.Core.List.{List, []}
+use mathlib.Core.List.{List}
 use mathlib.Core.Logic.{inl, inr}
 use Prim.Native.Nat.{ℕ, _+_, _<_, _≤_}
 use native.Mathlib.Omega.{arith}
@@ -14,10 +14,6 @@ use Rattle.monomials.proofs.Exponents.{exponent-at, exponent-past}
 use Rattle.polynomials.specs.declared.term.Term.{Term}
 use Rattle.polynomials.specs.Polynomials.{applied}
 use Rattle.polynomials.specs.Terms.{monomial-of, poly, Admitted}
-
--- what stands past the end of a list of terms
-abbrev pub blank : Term
-blank = record { monomial = record { exponents = [] }; code = 0 }
 
 -- the exponent in a place is small, and zero beyond m
 pub record Fine (m : ℕ) (es : List ℕ) (v : ℕ) : Type 0 where

@@ -10,6 +10,10 @@ use Rattle.polynomials.specs.Polynomials.{Poly}
 abbrev pub monomial-of : Term → Mono
 monomial-of t = mono (t .monomial .exponents)
 
+-- what stands past the end of a list of terms
+abbrev pub blank : Term
+blank = record { monomial = record { exponents = [] }; code = 0 }
+
 -- the polynomial that the terms stand for
 abbrev pub poly : List Term → Poly
 poly [] = []
@@ -17,7 +21,7 @@ poly (t ∷ ts) = record { at = monomial-of t; code = t .code } ∷ poly ts
 
 -- the code of the term at a place is not below the order
 abbrev pub Term-code-fault : ℕ → List Term → ℕ → Type 0
-Term-code-fault order ts = Faulty (λ t. order ≤ t .code) ts
+Term-code-fault order ts = Faulty blank (λ t. order ≤ t .code) ts
 
 -- no exponent is above 4,095, and only the first m variables occur
 pub record Admitted (m : ℕ) (a : Mono) : Type 0 where
@@ -26,7 +30,7 @@ pub record Admitted (m : ℕ) (a : Mono) : Type 0 where
 
 -- the monomial of the term at a place is not admitted
 abbrev pub Exponent-fault : ℕ → List Term → ℕ → Type 0
-Exponent-fault m ts = Faulty (λ t. Admitted m (monomial-of t) → ⊥) ts
+Exponent-fault m ts = Faulty blank (λ t. Admitted m (monomial-of t) → ⊥) ts
 
 -- no term is at fault
 pub record Terms-admitted (m order : ℕ) (ts : List Term) : Type 0 where

@@ -5,9 +5,9 @@ use lib.ListN.{getD, drop}
 use Rattle.fields.proofs.Rings as rings
 use Rattle.monomials.specs.Monomials.{Mono}
 use Rattle.polynomials.specs.Polynomials.{applied}
-use Rattle.polynomials.specs.Terms.{poly}
+use Rattle.polynomials.specs.Terms.{poly, blank}
 use Rattle.polynomials.proofs.Polynomials.{applied-below}
-use Rattle.polynomials.proofs.Terms.{blank, turn, all-summed}
+use Rattle.polynomials.proofs.Terms.{turn, all-summed}
 use Rattle.subjects.proofs.checking.polynomial_image.Needs as need
 
 pub loop-term-holds : need.loop-term-holds
