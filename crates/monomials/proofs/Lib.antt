@@ -1,1 +1,3 @@
+pub mod Leftmost
 pub mod Monomials
+pub mod Rules
