@@ -1,3 +1,5 @@
+pub mod Finite
 pub mod Leftmost
 pub mod Monomials
+pub mod Orders
 pub mod Rules
