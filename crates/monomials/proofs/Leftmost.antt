@@ -1,17 +1,14 @@
 -- The lexicographic order is that of the leftmost exponent in which two monomials differ.
-use mathlib.Core.Path.{_≡_, refl, ap}
-use mathlib.Core.Bool.{true}
+use mathlib.Core.Path.{_≡_, ap}
 use mathlib.Core.Logic.{inl, inr}
 use Prim.Native.Nat.{ℕ, zero, suc, _<_}
 use native.Mathlib.Omega.{arith}
-use Rattle.std.proofs.shelf.Tests.{false≢true}
 use Rattle.std.proofs.shelf.Ways.{tells}
 use Rattle.std.specs.Orderings.{isLt, Decides}
-use Rattle.std.specs.declared.cmp.Ordering.{Ordering}
-use Rattle.std.specs.declared.cmp.Ordering.the-variants.{Less, Equal, Greater}
 use Rattle.monomials.specs.Monomials.{Mono, exponent}
 use Rattle.monomials.specs.Orders.{Order, Before}
 use Rattle.monomials.specs.Rules.{by, tied, lexicographic, Leftmost-positive}
+use Rattle.monomials.proofs.Orders.{before-from-test}
 use Rattle.monomials.proofs.Rules.{before-cases}
 
 -- what the order is from the second, the third and the fourth exponent on
@@ -49,12 +46,6 @@ leftmost-from-before a b h = elim (before-cases (λ x. x .e0) from1 a b h) [
   ]
 ]
 
--- the test for before
-less-from-test : (o : Ordering) → isLt o ≡ true → o ≡ Less
-less-from-test Less h = refl
-less-from-test Equal h = absurd (false≢true h)
-less-from-test Greater h = absurd (false≢true h)
-
 -- before exactly where the leftmost difference is in favour
 pub leftmost-decides : (a b : Mono) → Decides (isLt (lexicographic a b)) (Leftmost-positive a b)
-leftmost-decides a b = (λ t. leftmost-from-before a b (less-from-test (lexicographic a b) t), λ l. ap isLt (before-from-leftmost a b l))
+leftmost-decides a b = (λ t. leftmost-from-before a b (before-from-test (lexicographic a b) t), λ l. ap isLt (before-from-leftmost a b l))

@@ -1,16 +1,25 @@
 -- What follows from the laws of any monomial order.
 use mathlib.Core.Path.{_≡_, refl, sym, _∙_, ap, subst}
 use mathlib.Core.Logic.{_⊎_, inl, inr}
+use mathlib.Core.Bool.{true}
 use mathlib.Core.List.{List, [], _∷_}
 use Prim.Native.Nat.{ℕ, _<_}
 use native.Mathlib.Omega.{arith}
 use Rattle.std.proofs.shelf.Elements.{has-getD, has-append-right, all-weaker}
+use Rattle.std.proofs.shelf.Tests.{false≢true}
+use Rattle.std.specs.Orderings.{isLt}
 use Rattle.std.specs.shelf.Lists.{Has, All}
 use Rattle.std.specs.declared.cmp.Ordering.{Ordering}
 use Rattle.std.specs.declared.cmp.Ordering.the-variants.{Less, Equal, Greater}
 use Rattle.monomials.specs.Monomials.{Mono, one, times, variable, exponent, Divides}
 use Rattle.monomials.specs.Orders.{Order, Order-laws, turned, Before, Up-to}
 use Rattle.monomials.proofs.Monomials.{one-times, times-comm, exponent-own, within-one, cases-mono, over, over-times}
+
+-- what the test for before tells
+pub before-from-test : (o : Ordering) → isLt o ≡ true → o ≡ Less
+before-from-test Less h = refl
+before-from-test Equal h = absurd (false≢true h)
+before-from-test Greater h = absurd (false≢true h)
 
 module _ (O : Order) (L : Order-laws O) where
   -- irreflexive
