@@ -11,13 +11,15 @@ use Rattle.monomials.specs.Rules.{by, tied, lexicographic, Leftmost-positive}
 use Rattle.monomials.proofs.Orders.{before-from-test}
 use Rattle.monomials.proofs.Rules.{before-cases}
 
--- what the order is from the second, the third and the fourth exponent on
+-- what decides from the second exponent on
 abbrev from1 : Order
 from1 = by (λ a. a .e1) (by (λ a. a .e2) (by (λ a. a .e3) tied))
 
+-- from the third
 abbrev from2 : Order
 from2 = by (λ a. a .e2) (by (λ a. a .e3) tied)
 
+-- and from the fourth
 abbrev from3 : Order
 from3 = by (λ a. a .e3) tied
 

@@ -27,7 +27,7 @@ tied a b = Equal
 abbrev pub lexicographic : Order
 lexicographic = by (λ a. a .e0) (by (λ a. a .e1) (by (λ a. a .e2) (by (λ a. a .e3) tied)))
 
--- the leftmost non-zero entry of b − a is positive
+-- the leftmost non-zero entry of b − a is positive: up to some place the exponents are equal, and there that of b is larger
 abbrev pub Leftmost-positive : Mono → Mono → Type 0
 Leftmost-positive a b = (k : ℕ) × ((j : ℕ) → j < k → exponent a j ≡ exponent b j) × (exponent a k < exponent b k)
 

@@ -6,7 +6,7 @@ use crate::monomial::Monomial;
 use crate::order::MonomialOrder;
 use std::cmp::Ordering;
 
-#[derive(Clone, Copy, Debug)]
+#[derive(Clone, Copy)]
 pub struct Graded;
 
 pub impl MonomialOrder for Graded as GradedOrder {

@@ -7,7 +7,7 @@ use crate::monomial::Monomial;
 use crate::order::MonomialOrder;
 use std::cmp::Ordering;
 
-#[derive(Clone, Copy, Debug)]
+#[derive(Clone, Copy)]
 pub struct Lexicographic;
 
 // From the left, the first exponents that differ decide.

@@ -10,6 +10,7 @@ pub trait MonomialOrder {
     // What the order means, over exponents of any size.
     ghost order: { Self → Order };
 
+    // Each order is lawful, for all sizes of exponents.
     law laws: { (o : Self) → Order-laws (order o) };
 
     fn compare(&self, a: &Monomial, b: &Monomial) -> Ordering

@@ -3,10 +3,9 @@ ghost use Rattle.monomials.specs.Rules.{weighted};
 use crate::monomial::Monomial;
 use crate::order::MonomialOrder;
 use crate::weights::Weights;
-use crate::weights::WeightsDebug;
 use std::cmp::Ordering;
 
-#[derive(Clone, Copy, Debug)]
+#[derive(Clone, Copy)]
 pub struct Weighted<O> {
     pub weights: Weights,
     pub below: O,

@@ -1,7 +1,6 @@
 // Four weights, one for each variable.
 ghost use mathlib.Core.Path.{_≡_};
 ghost use Prim.Native.Nat.{ℕ, _*_, _≤_};
-ghost use lib.ListN.{getD};
 ghost use Rattle.std.specs.Results.{Cases};
 ghost use Rattle.faults.specs.declared.arithmetic.ArithmeticFault.the-variants.{Weight};
 ghost use Rattle.monomials.specs.Monomials.{mono};
@@ -10,7 +9,7 @@ ghost use Rattle.monomials.specs.Weights.{largest-weight, Admitted, First-abov
 use crate::monomial::Monomial;
 use faults::ArithmeticFault;
 
-#[derive(Clone, Copy, Debug)]
+#[derive(Clone, Copy)]
 pub struct Weights {
     weights: [u16; 4],
     ghost admitted: { Admitted weights },
