@@ -102,9 +102,17 @@ fn show_pattern_refusals(rt: &LibcRuntime) -> io::Result<()> {
     let claim = [u(1, 1)];
     println!(rt, "refused patterns")?;
     report(rt, "modulus 256", examine(256, &[1], &cell, &claim))?;
-    report(rt, "5 periods", examine(11, &[1, 1, 1, 1, 1], &cell, &claim))?;
+    report(
+        rt,
+        "5 periods",
+        examine(11, &[1, 1, 1, 1, 1], &cell, &claim),
+    )?;
     report(rt, "period 13 by 5", examine(11, &[13, 5], &cell, &claim))?;
-    report(rt, "period 2 by 2, 1 cell", examine(11, &[2, 2], &cell, &claim))?;
+    report(
+        rt,
+        "period 2 by 2, 1 cell",
+        examine(11, &[2, 2], &cell, &claim),
+    )?;
     report(rt, "cells 3 10 11", examine(11, &[3], &[3, 10, 11], &claim))
 }
 
@@ -113,9 +121,17 @@ fn show_term_refusals(rt: &LibcRuntime) -> io::Result<()> {
     let period = [2];
     let cells = [1, 10];
     println!(rt, "refused terms")?;
-    report(rt, "u + 11", examine(11, &period, &cells, &[u(1, 1), u(0, 11)]))?;
+    report(
+        rt,
+        "u + 11",
+        examine(11, &period, &cells, &[u(1, 1), u(0, 11)]),
+    )?;
     report(rt, "u^4096", examine(11, &period, &cells, &[u(4096, 1)]))?;
-    report(rt, "u + v", examine(11, &period, &cells, &[u(1, 1), v(1, 1)]))
+    report(
+        rt,
+        "u + v",
+        examine(11, &period, &cells, &[u(1, 1), v(1, 1)]),
+    )
 }
 
 fn main(rt: LibcRuntime) -> io::Result<()> {

@@ -1,2 +1,5 @@
 pub mod Monomials
-pub mod Exponents
+pub mod Orders
+pub mod Finite
+pub mod Leftmost
+pub mod Rules

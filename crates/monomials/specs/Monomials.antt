@@ -48,6 +48,10 @@ exponent a (suc (suc zero)) = a .e2
 exponent a (suc (suc (suc zero))) = a .e3
 exponent a (suc (suc (suc (suc n)))) = 0
 
+-- the sum of the exponents
+abbrev pub degree : Mono → ℕ
+degree a = a .e0 + a .e1 + a .e2 + a .e3
+
 -- only the first m variables occur
 abbrev pub Within : ℕ → Mono → Type 0
 Within m a = (k : ℕ) → m ≤ k → exponent a k ≡ 0

@@ -10,7 +10,7 @@ use Rattle.std.proofs.shelf.Tests.{cases-lt}
 use Rattle.fields.specs.Arithmetic.{Arithmetic, Ring-laws}
 use Rattle.fields.proofs.Rings as rings
 use Rattle.monomials.specs.Monomials.{Mono, mono, exponent}
-use Rattle.monomials.proofs.Exponents.{exponent-at, exponent-past}
+use Rattle.monomials.proofs.Monomials.{exponent-mono, within-four}
 use Rattle.polynomials.specs.declared.term.Term.{Term}
 use Rattle.polynomials.specs.Polynomials.{applied}
 use Rattle.polynomials.specs.Terms.{monomial-of, poly, Admitted}
@@ -23,15 +23,15 @@ pub record Fine (m : ℕ) (es : List ℕ) (v : ℕ) : Type 0 where
 -- four fine exponents make an admitted monomial
 pub admitted : (m : ℕ) (es : List ℕ) → ((v : ℕ) → v < 4 → Fine m es v) → Admitted m (mono es)
 admitted m es h = record {
-  small = λ v. elim (cases-lt v 4) [ inl l ↦ omega (arith, exponent-at es v l, h v l .small) | inr g ↦ omega (arith, exponent-past es v g) ];
-  variables = λ v b. elim (cases-lt v 4) [ inl l ↦ exponent-at es v l ∙ h v l .zero-beyond b | inr g ↦ exponent-past es v g ];
+  small = λ v. elim (cases-lt v 4) [ inl l ↦ omega (arith, exponent-mono es v l, h v l .small) | inr g ↦ omega (arith, within-four (mono es) v g) ];
+  variables = λ v b. elim (cases-lt v 4) [ inl l ↦ exponent-mono es v l ∙ h v l .zero-beyond b | inr g ↦ within-four (mono es) v g ];
 }
 
 -- and the exponents of an admitted monomial are fine
 pub fine : (m : ℕ) (es : List ℕ) → Admitted m (mono es) → (v : ℕ) → v < 4 → Fine m es v
 fine m es a v l = record {
-  small = omega (arith, exponent-at es v l, a .small v);
-  zero-beyond = λ b. omega (arith, exponent-at es v l, a .variables v b);
+  small = omega (arith, exponent-mono es v l, a .small v);
+  zero-beyond = λ b. omega (arith, exponent-mono es v l, a .variables v b);
 }
 
 -- the terms from a place on give what the term there gives, and what the terms after it give

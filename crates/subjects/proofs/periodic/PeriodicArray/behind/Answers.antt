@@ -5,7 +5,7 @@ use native.Mathlib.Nat.{mod-lt}
 use native.Mathlib.Omega.{arith}
 use lib.ListN.{length}
 use Rattle.monomials.specs.Monomials.{mono}
-use Rattle.monomials.proofs.Exponents.{exponent-at}
+use Rattle.monomials.proofs.Monomials.{exponent-mono}
 use Rattle.subjects.proofs.Walk.{Bounds, bounds, walked, stop, behind-all}
 use Rattle.subjects.proofs.periodic.PeriodicArray.behind.Needs as need
 
@@ -47,7 +47,7 @@ loop-axis-again c =
     let es = c .args .monomial .now .exponents in
     walked (s .periods .now) (mono es) (c .args .position) (c .loop-axis .axis) (c .loop-axis .place) (c .loop-axis .scale) (c .loop-axis .rest)
     (s .inhabited) (c .loop-axis-test .taken) (c .loop-axis .inv) (c .from-period .result) (c .from-exponent .result) (c .from-period .ensures)
-    (c .from-exponent .ensures ∙ sym (exponent-at es (c .loop-axis .axis) (omega (arith, s .few))))
+    (c .from-exponent .ensures ∙ sym (exponent-mono es (c .loop-axis .axis) (omega (arith, s .few))))
 
 pub returns : need.returns
 returns c =
