@@ -39,9 +39,9 @@ pub fn is_admitted(monomial: &Monomial, variables: usize) -> bool
 pub fn first_exponent_outside(terms: &[Term], variables: usize) -> Option<usize>
     ensures { λ r. ⌜ Searched (Exponent-fault variables (now (terms .entry))) r ⌝ }
 {
-    for (i, term) in terms.iter().enumerate() {
+    for (place, term) in terms.iter().enumerate() {
         if !is_admitted(&term.monomial, variables) {
-            return Some(i);
+            return Some(place);
         }
     }
     None
