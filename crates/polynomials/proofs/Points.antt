@@ -1,19 +1,19 @@
 -- A point set is a subject, and its annihilators are the polynomials that vanish at every point.
 use mathlib.Core.Path.{_≡_, refl, sym, _∙_, ap, ap₂, subst, fun-ext}
 use mathlib.Core.List.{List, [], _∷_, _++_}
-use Prim.Native.Nat.{ℕ, zero, suc, _%_, _<_, _≤_}
-use native.Mathlib.Nat.{add-zero, mod-lt, mod-eq-of-lt, zero-mod}
+use Prim.Native.Nat.{ℕ, zero, suc, _*_, _%_, _<_, _≤_}
+use native.Mathlib.Nat.{add-zero, mod-lt, mod-eq-of-lt, zero-mod, min-le-left}
 use native.Mathlib.Numerals.{add-one}
 use native.Mathlib.Omega.{arith}
 use lib.Dec.{ltb}
-use lib.ListN.{length}
+use lib.ListN.{length, drop, length-take}
 use Rattle.std.proofs.shelf.Tests.{lt-ltb, le-ltb, cond-true, cond-false, cond-both}
 use Rattle.fields.specs.Arithmetic.{Arithmetic, Ring-laws}
 use Rattle.fields.proofs.Rings as rings
 use Rattle.fields.proofs.Squaring.{one-power}
 use Rattle.monomials.specs.Monomials.{Mono, one, times, variable, Within}
 use Rattle.monomials.proofs.Monomials.{by-variables}
-use Rattle.polynomials.specs.Points.{coordinate, point-at, monomial-value, polynomial-value, points-meaning, Evaluates, Only-evaluation, Annihilators-vanish}
+use Rattle.polynomials.specs.Points.{coordinate, point-at, monomial-value, polynomial-value, points-meaning, Evaluates, Only-evaluation, Values-evaluate, Annihilators-vanish}
 use Rattle.polynomials.specs.Polynomials.{Poly, applied, moved-by, In-variables}
 use Rattle.polynomials.specs.Subjects.{Subject-laws, image-of}
 use Rattle.polynomials.proofs.Polynomials.{applied-below, applied-moved, applied-times}
@@ -142,6 +142,16 @@ module _ (m count : ℕ) (coordinates : List ℕ) where
   -- the image of a polynomial at a point is its value there
   pub image-value : (A : Arithmetic) (p : Poly) (k : ℕ) → k < count → image-of (points-meaning m count coordinates) A p k ≡ polynomial-value A (point-at m coordinates k) p
   image-value A p k h = ap (λ f. applied A f p) (fun-ext (λ a. image-inside A a k h)) ∙ sym (value-applied A (point-at m coordinates k) p)
+
+  -- past the points it is 0
+  pub image-past : (A : Arithmetic) → Ring-laws A → (p : Poly) (k : ℕ) → count ≤ k → image-of (points-meaning m count coordinates) A p k ≡ 0
+  image-past A L p k h =
+      ap (λ f. applied A f p) (fun-ext (λ a. cond-false (ltb k count) (monomial-value A (point-at m coordinates k) a) 0 (le-ltb k count h) ∙ sym (rings.zero-product A L 0))) ∙
+      applied-times A L 0 (λ _. 0) p ∙
+      rings.zero-product A L (applied A (λ _. 0) p)
+
+  pub values-evaluate : m ≤ 4 → Values-evaluate m count coordinates
+  values-evaluate few A L k h = only-evaluation A L (point-at m coordinates k) (omega (arith, length-take m (drop (k * m) coordinates), min-le-left m (length (drop (k * m) coordinates))))
 
   pub annihilators-vanish : Annihilators-vanish m count coordinates
   annihilators-vanish A L p = (λ h k l. sym (image-value A p k l) ∙ h k l, λ h k l. image-value A p k l ∙ h k l)

@@ -47,6 +47,10 @@ pub record Only-evaluation (A : Arithmetic) (point : List ℕ) : Type 0 where
   pub evaluates : Evaluates A point (polynomial-value A point)
   pub only : (value : Poly → ℕ) → Evaluates A point value → (p : Poly) → In-variables (length point) p → value p ≡ polynomial-value A point p
 
+-- the value at each point is the only evaluation there, under every field
+abbrev pub Values-evaluate : ℕ → ℕ → List ℕ → Type 0
+Values-evaluate m count coordinates = (A : Arithmetic) → Ring-laws A → (k : ℕ) → k < count → Only-evaluation A (point-at m coordinates k)
+
 -- the points as a subject: the image of a monomial at a position is its value at the point there
 abbrev pub points-meaning : ℕ → ℕ → List ℕ → Subject-meaning
 points-meaning m count coordinates = record {
