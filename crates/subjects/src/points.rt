@@ -90,6 +90,16 @@ impl<'a> PointSet<'a> {
         Ok(())
     }
 
+    // The coordinates of the point of this number.
+    fn point(&self, number: usize) -> &'a [u16]
+        requires { ⌜ number < now self .points ⌝ }
+        ensures is { λ r. ⌜ now r ≡ point-at (now (self .entry) .variables) (now (now (self .entry) .coordinates)) number ⌝ }
+        ensures few { λ r. ⌜ length (now r) ≤ 4 ⌝ }
+    {
+        let start = number * self.variables;
+        &self.coordinates[start..start + self.variables]
+    }
+
     // The value of the polynomial at the point of this number, and 0 past the points. It is what evaluation at the point gives,
     // and the annihilators of the set are exactly the polynomials that vanish at every point.
     pub fn value_at<F: Field>(&self, field: &F, terms: &[Term], point: usize) -> u16
@@ -120,8 +130,6 @@ pub impl<'a> Subject for PointSet<'a> as PointSubject {
         if position >= self.points {
             return 0;
         }
-        let start = position * self.variables;
-        let point = &self.coordinates[start..start + self.variables];
-        monomial_value(field, point, monomial)
+        monomial_value(field, self.point(position), monomial)
     }
 }
