@@ -19,8 +19,9 @@ of-arithmetic (arithmetics.Weight weight) = record { ground = 5; place = weight;
 abbrev pub of-subject : SubjectFault → Refusal
 of-subject subjects.Variables = record { ground = 6; place = 0; layer = layers.Subject }
 of-subject (subjects.Period axis) = record { ground = 7; place = axis; layer = layers.Subject }
+of-subject subjects.Points = record { ground = 7; place = 0; layer = layers.Subject }
 of-subject subjects.Count = record { ground = 9; place = 0; layer = layers.Subject }
-of-subject (subjects.Code cell) = record { ground = 10; place = cell; layer = layers.Subject }
+of-subject (subjects.Code code) = record { ground = 10; place = code; layer = layers.Subject }
 of-subject (subjects.Arithmetic fault) = of-arithmetic fault
 
 -- what a fault of the worksheet's layer answers; one of a subject answers as it did there

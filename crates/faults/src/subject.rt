@@ -16,9 +16,11 @@ pub enum SubjectFault {
     Variables,
     // a period is 0, or the product of the periods so far is above 64
     Period(usize),
-    // the lent cells are not as many as needed
+    // there are no points, or more than 64
+    Points,
+    // the lent cells or coordinates are not as many as needed
     Count,
-    // a lent cell is not below the field's order
+    // a lent cell or coordinate is not below the field's order
     Code(usize),
     // a fault of arithmetic, passed up
     Arithmetic(ArithmeticFault),
@@ -31,8 +33,9 @@ pub impl Fault for SubjectFault as SubjectRefuses {
         let (ground, place) = match self {
             SubjectFault::Variables => (6, 0),
             SubjectFault::Period(axis) => (7, *axis),
+            SubjectFault::Points => (7, 0),
             SubjectFault::Count => (9, 0),
-            SubjectFault::Code(cell) => (10, *cell),
+            SubjectFault::Code(code) => (10, *code),
             SubjectFault::Arithmetic(fault) => return fault.refusal(),
         };
         Refusal {

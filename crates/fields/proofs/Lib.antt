@@ -1,4 +1,5 @@
 pub mod Rings
+pub mod Squaring
 pub mod Remainders
 pub mod Residues
 pub mod Tables

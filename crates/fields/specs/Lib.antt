@@ -1,5 +1,6 @@
 pub mod Arithmetic
 pub mod Codes
+pub mod Powers
 pub mod Tables
 pub mod Residues
 pub mod Binaries

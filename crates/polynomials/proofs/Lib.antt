@@ -2,4 +2,5 @@ pub mod Polynomials
 pub mod Subjects
 pub mod Wrapping
 pub mod Arrays
+pub mod Points
 pub mod Terms

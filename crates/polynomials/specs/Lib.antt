@@ -1,4 +1,5 @@
 pub mod Polynomials
 pub mod Subjects
 pub mod Arrays
+pub mod Points
 pub mod Terms

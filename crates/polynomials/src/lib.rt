@@ -1,4 +1,4 @@
-// Terms of polynomials; the theory of polynomials, of what they annihilate and of periodic arrays stands in specs and proofs.
+// Terms of polynomials; the theory of polynomials, of what they annihilate, of periodic arrays and of point sets stands in specs and proofs.
 mod term;
 mod term_faults;
 

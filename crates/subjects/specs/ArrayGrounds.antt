@@ -2,18 +2,14 @@
 use mathlib.Core.List.{List}
 use mathlib.Core.Logic.{_⊎_}
 use mathlib.Core.Path.{_≡_}
-use Prim.Native.Nat.{ℕ, _+_, _<_, _≤_}
+use Prim.Native.Nat.{ℕ, _+_, _<_}
 use lib.ListN.{length, take}
 use Rattle.faults.specs.Places.{First-at, None-at}
 use Rattle.faults.specs.declared.subject.SubjectFault.{SubjectFault}
-use Rattle.faults.specs.declared.subject.SubjectFault.the-variants.{Variables, Period, Count, Code, Arithmetic}
+use Rattle.faults.specs.declared.subject.SubjectFault.the-variants.{Variables, Period, Points, Count, Code, Arithmetic}
 use Rattle.fields.specs.Codes.{Code-fault}
 use Rattle.polynomials.specs.Arrays.{period, cells-of}
-
--- there are 1 to 4 variables
-pub record Variables-fit (m : ℕ) : Type 0 where
-  pub some : 1 ≤ m
-  pub few : m ≤ 4
+use Rattle.subjects.specs.Variables.{Variables-fit}
 
 -- the period is 0, or the product of the periods so far is above 64
 pub record Period-fault (ns : List ℕ) (v : ℕ) : Type 0 where
@@ -35,6 +31,7 @@ pub record Array-admitted (order : ℕ) (ns cells : List ℕ) : Type 0 where
 abbrev pub Array-refused : ℕ → List ℕ → List ℕ → SubjectFault → Type 0
 Array-refused order ns cells Variables = Variables-fit (length ns) → ⊥
 Array-refused order ns cells (Period axis) = Variables-fit (length ns) × First-at (Period-fault ns) axis
+Array-refused order ns cells Points = ⊥
 Array-refused order ns cells Count = Periods-admitted ns × (length cells ≡ cells-of ns → ⊥)
 Array-refused order ns cells (Code cell) = Periods-admitted ns × (length cells ≡ cells-of ns) × First-at (Code-fault order cells) cell
 Array-refused order ns cells (Arithmetic fault) = ⊥

@@ -1,2 +1,4 @@
 pub mod Checks
+pub mod Variables
 pub mod ArrayGrounds
+pub mod PointGrounds

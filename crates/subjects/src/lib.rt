@@ -1,6 +1,7 @@
 // Subjects: what polynomials are checked against.
 mod checking;
 mod periodic;
+mod points;
 mod subject;
 
 pub use checking::Finding;
@@ -11,4 +12,6 @@ pub use checking::check;
 pub use checking::polynomial_image;
 pub use periodic::PeriodicArray;
 pub use periodic::PeriodicSubject;
+pub use points::PointSet;
+pub use points::PointSubject;
 pub use subject::Subject;

@@ -9,15 +9,14 @@ ghost use Rattle.monomials.specs.Monomials.{mono, times};
 ghost use Rattle.polynomials.specs.Arrays.{array-meaning, infinite-array, cells-of, cell-at, position-of, wrapped, Annihilators-are-valid};
 ghost use Rattle.subjects.specs.ArrayGrounds.{Array-admitted, Array-refused, Periods-admitted};
 ghost use Rattle.polynomials.proofs.Arrays.{array-laws};
+use crate::subject::MOST_VARIABLES;
 use crate::subject::Subject;
 use faults::SubjectFault;
 use fields::Field;
 use fields::first_outside;
 use monomials::Monomial;
 
-// The most variables, and the most cells of a period.
-const MOST_VARIABLES: usize = 4;
-
+// The most cells of a period.
 const MOST_CELLS: usize = 64;
 
 #[derive(Clone, Copy)]

@@ -5,6 +5,9 @@ ghost use Rattle.polynomials.specs.Subjects.{Subject-meaning, Subject-laws};
 use fields::Field;
 use monomials::Monomial;
 
+// The most variables that a subject has.
+pub const MOST_VARIABLES: usize = 4;
+
 pub trait Subject {
     // What the subject means: its variables, its width and its images.
     ghost meaning: { Self → Subject-meaning };

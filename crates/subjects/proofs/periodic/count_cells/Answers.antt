@@ -5,7 +5,7 @@ use Prim.Native.Nat.{_*_, _<_, _≤_}
 use native.Mathlib.Omega.{arith}
 use lib.ListN.{length, getD}
 use Rattle.std.proofs.shelf.Tests.{cases-eq, eqb-false}
-use Rattle.subjects.specs.ArrayGrounds.{Variables-fit, Period-fault}
+use Rattle.subjects.specs.ArrayGrounds.{Period-fault}
 use Rattle.subjects.proofs.Widths.{wider, all-cells, faulty, faultless}
 use Rattle.subjects.proofs.periodic.count_cells.Needs as need
 
