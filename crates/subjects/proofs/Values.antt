@@ -10,7 +10,7 @@ use Rattle.fields.specs.Arithmetic.{Arithmetic, Ring-laws}
 use Rattle.fields.specs.Powers.{power}
 use Rattle.fields.proofs.Squaring.{one-power, power-one}
 use Rattle.monomials.specs.Monomials.{mono, exponent}
-use Rattle.monomials.proofs.Exponents.{exponent-at}
+use Rattle.monomials.proofs.Monomials.{exponent-mono}
 use Rattle.polynomials.specs.Points.{coordinate, monomial-value}
 
 -- the product of the first n powers of coordinates
@@ -36,7 +36,7 @@ module _ (A : Arithmetic) (L : Ring-laws A) (point es : List ℕ) where
   present zero h l = refl
   present (suc n) h l =
       ap (λ x. x ⊗ power A (getD point n 0) (getD es n 0)) (present n (omega arith) (omega arith)) ∙
-      ap₂ (λ c e. factors-upto n ⊗ power A c e) (getD-default point n 0 1 (omega arith)) (sym (exponent-at es n (omega arith)))
+      ap₂ (λ c e. factors-upto n ⊗ power A c e) (getD-default point n 0 1 (omega arith)) (sym (exponent-mono es n (omega arith)))
 
   -- an absent coordinate adds no factor
   absent : (n : ℕ) → length point ≤ n → factors-upto (suc n) ≡ factors-upto n

@@ -1,0 +1,19 @@
+-- Either the set refuses, or it is set, and the check is of it.
+use mathlib.Core.Path.{subst₃}
+use Rattle.std.proofs.shelf.Results.{err-from-errBy}
+use Rattle.polynomials.specs.Points.{points-meaning}
+use Rattle.subjects.specs.Checks.{Checked}
+use Rattle.check_relation.specs.Examined.{refused, checked}
+use Rattle.check_relation.proofs.examination.examine_set.Needs as need
+
+pub returns-in-Break-set : need.returns-in-Break-set
+returns-in-Break-set g c =
+    let p = err-from-errBy (c .from-residual .result) (c .from-residual .ensures .1) in
+    rw (p .1, p .2) (refused (c .in-Break-set .ensures tt .0))
+
+pub returns : need.returns
+returns g c =
+    let A = g .F·Field .arithmetic (c .args .field .now) in
+    let set = c .in-Continue-set .ensures tt in
+    checked (set .0)
+    (subst₃ (λ x y z. Checked (points-meaning x y z) A (c .args .terms .now) (c .check .result)) (set .1) (set .2) (set .3) (c .check .ensures))
