@@ -7,6 +7,7 @@ use Rattle.fields.specs.Arithmetic.{Arithmetic, Field-laws}
 use Rattle.monomials.specs.Monomials.{Mono, Divides, Within}
 use Rattle.monomials.specs.Orders.{Order, Order-laws, Before}
 use Rattle.polynomials.specs.Polynomials.{Poly, coefficient, In-variables}
+use Rattle.polynomials.specs.Arrays.{array-meaning}
 use Rattle.polynomials.specs.Subjects.{Subject-meaning, Subject-laws, Annihilates}
 
 -- a set-up: a subject, a field and an order
@@ -14,6 +15,10 @@ pub record Set-up : Type 0 where
   pub subject : Subject-meaning
   pub field : Arithmetic
   pub order : Order
+
+-- the set-up of a periodic array
+abbrev pub array-set-up : List ℕ → List ℕ → Arithmetic → Order → Set-up
+array-set-up periods cells A O = record { subject = array-meaning periods cells; field = A; order = O }
 
 -- a set-up whose parts keep their laws
 pub record Lawful (U : Set-up) : Type 0 where

@@ -6,14 +6,16 @@ use Prim.Native.Nat.{ℕ, _<_, _≤_}
 use lib.ListN.{length, getD, take}
 use Rattle.fields.specs.Arithmetic.{Arithmetic, Field-laws}
 use Rattle.monomials.specs.Monomials.{Mono, Within}
+use Rattle.monomials.specs.Orders.{Order}
 use Rattle.polynomials.specs.Polynomials.{Poly, In-variables}
+use Rattle.polynomials.specs.Arrays.{cells-of, infinite-array}
 use Rattle.polynomials.specs.Subjects.{Subject-meaning, Subject-laws}
 use Rattle.rows.specs.declared.line.Line.{Line}
-use Rattle.rows.specs.Ideals.{Set-up, Lawful, Reduced, Same-polynomials}
+use Rattle.rows.specs.Ideals.{Set-up, array-set-up, Lawful, Reduced, Same-polynomials}
 use Rattle.rows.specs.Lines.{monomial-of, line, stairs-of, All-stand, One-line}
 use Rattle.rows.specs.Sheets.{Next, Finished, Kept}
 use Rattle.rows.specs.Rows.{Row, One-row}
-use Rattle.rows.specs.Continuation.{Infinite-array, seen-from, Continues, One-continuation}
+use Rattle.rows.specs.Continuation.{Infinite-array, seen-from, Own-codes, Continues, One-continuation}
 use Rattle.rows.specs.Remainders.{One-remainder}
 
 -- there is exactly one row
@@ -54,12 +56,18 @@ abbrev pub Codes-continue : Type 0
 Codes-continue = (U : Set-up) → Lawful U → (row : List Line) → Row U row → (codes : List ℕ) →
     ((j : ℕ) → j < length (stairs-of row) → getD codes j 0 < U .field .order) → One-continuation U row codes
 
--- the codes that a subject itself has at a position, on the staircase, are continued to all that it has there
-abbrev pub Cells-continue : Type 0
-Cells-continue = (U : Set-up) → Lawful U → (row : List Line) → Row U row → (k : ℕ) → k < U .subject .width → (codes : List ℕ) →
-    ((j : ℕ) → j < length (stairs-of row) → getD codes j 0 ≡ seen-from U k (monomial-of (line (stairs-of row) j))) →
-    Continues U row codes (seen-from U k) ×
+-- what a subject has at a position, on the staircase, is continued to all that it has there
+abbrev pub Positions-continue : Type 0
+Positions-continue = (U : Set-up) → Lawful U → (row : List Line) → Row U row → (k : ℕ) → k < U .subject .width → (codes : List ℕ) →
+    Own-codes row (seen-from U k) codes → Continues U row codes (seen-from U k) ×
     ((f : Infinite-array) → Continues U row codes f → (a : Mono) → Within (U .subject .variables) a → f a ≡ seen-from U k a)
+
+-- an array's own cells on the staircase are continued to all its cells
+abbrev pub Cells-continue : Type 0
+Cells-continue = (periods cells : List ℕ) (A : Arithmetic) (O : Order) → 0 < cells-of periods → Lawful (array-set-up periods cells A O) →
+    (row : List Line) → Row (array-set-up periods cells A O) row → (codes : List ℕ) → Own-codes row (infinite-array periods cells A) codes →
+    (f : Infinite-array) → Continues (array-set-up periods cells A O) row codes f →
+    (a : Mono) → Within (length periods) a → f a ≡ infinite-array periods cells A a
 
 -- each polynomial differs by a member of the ideal from exactly one combination of stairs
 abbrev pub Remainder-is-one : Type 0

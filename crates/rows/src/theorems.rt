@@ -1,6 +1,6 @@
 // The theorems on rows, each on the contract of a call. They hold for every lawful subject, field and order.
 ghost use Rattle.rows.specs.Theorems.{Row-is-one, Basis-is-one, Line-is-one, Kept-are-first, Finished-are-all, Next-is-next, Finished-is-decided};
-ghost use Rattle.rows.specs.Theorems.{Codes-continue, Cells-continue, Remainder-is-one};
+ghost use Rattle.rows.specs.Theorems.{Codes-continue, Positions-continue, Cells-continue, Remainder-is-one};
 
 // A set-up has one row, and its ideal one reduced Groebner basis.
 pub fn one_row()
@@ -24,6 +24,7 @@ pub fn kept_lines()
 // Codes on the staircase continue to one infinite array.
 pub fn one_continuation()
     ensures codes { λ _. ⌜ Codes-continue ⌝ }
+    ensures positions { λ _. ⌜ Positions-continue ⌝ }
     ensures cells { λ _. ⌜ Cells-continue ⌝ }
 {}
 

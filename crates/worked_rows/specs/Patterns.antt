@@ -11,10 +11,9 @@ use Rattle.monomials.specs.Monomials.{Mono, one, times, variable}
 use Rattle.monomials.specs.Orders.{Order}
 use Rattle.monomials.specs.Rules.{lexicographic, graded}
 use Rattle.polynomials.specs.Polynomials.{Summand, Poly, coefficient}
-use Rattle.polynomials.specs.Arrays.{array-meaning}
 use Rattle.polynomials.specs.Points.{points-meaning}
 use Rattle.rows.specs.declared.line.Line.{Line}
-use Rattle.rows.specs.Ideals.{Set-up, Lawful, In-ideal}
+use Rattle.rows.specs.Ideals.{Set-up, array-set-up, Lawful, In-ideal}
 use Rattle.rows.specs.Lines.{monomial-of, stairs-of}
 use Rattle.rows.specs.Rows.{Row, members}
 use Rattle.rows.specs.Continuation.{Infinite-array, Continues}
@@ -60,23 +59,23 @@ ten-cells = 3 ∷ 5 ∷ 9 ∷ 6 ∷ 0 ∷ 10 ∷ 8 ∷ 4 ∷ 7 ∷ 2 ∷ []
 
 -- the sequence with these cells, by the modulus 11
 abbrev pub sequence : Set-up
-sequence = record { subject = array-meaning (10 ∷ []) ten-cells; field = residues 11; order = graded }
+sequence = array-set-up (10 ∷ []) ten-cells (residues 11) graded
 
 -- a square of two by two by the modulus 2: 1 at (0, 0) and at (1, 1)
 abbrev pub square : Order → Set-up
-square O = record { subject = array-meaning (2 ∷ 2 ∷ []) (1 ∷ 0 ∷ 0 ∷ 1 ∷ []); field = residues 2; order = O }
+square O = array-set-up (2 ∷ 2 ∷ []) (1 ∷ 0 ∷ 0 ∷ 1 ∷ []) (residues 2) O
 
 -- three cells of 0 by the modulus 5
 abbrev pub zeros : Set-up
-zeros = record { subject = array-meaning (3 ∷ []) (0 ∷ 0 ∷ 0 ∷ []); field = residues 5; order = graded }
+zeros = array-set-up (3 ∷ []) (0 ∷ 0 ∷ 0 ∷ []) (residues 5) graded
 
 -- one cell of 4 by the modulus 5
 abbrev pub constant : Set-up
-constant = record { subject = array-meaning (1 ∷ []) (4 ∷ []); field = residues 5; order = graded }
+constant = array-set-up (1 ∷ []) (4 ∷ []) (residues 5) graded
 
 -- three cells in the field of four codes
 abbrev pub powers : Set-up
-powers = record { subject = array-meaning (3 ∷ []) (1 ∷ 2 ∷ 3 ∷ []); field = binary 2; order = graded }
+powers = array-set-up (3 ∷ []) (1 ∷ 2 ∷ 3 ∷ []) (binary 2) graded
 
 -- the points (0, 0), (1, 0) and (0, 1) by the modulus 5
 abbrev pub corners : Set-up
