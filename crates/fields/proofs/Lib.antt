@@ -9,3 +9,8 @@ pub mod Additive
 pub mod Binaries
 pub mod Copies
 pub mod Powers
+pub mod Totals
+pub mod Counting
+pub mod Listings
+pub mod Triangles
+pub mod Clearings

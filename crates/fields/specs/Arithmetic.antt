@@ -1,7 +1,7 @@
 -- What a field of codes is: its order, and a sum, a negative and a product over codes.
 -- A code at or above the order counts as its remainder by the order, so the laws hold of every number.
 use mathlib.Core.Path.{_≡_}
-use Prim.Native.Nat.{ℕ, _<_, _%_}
+use Prim.Native.Nat.{ℕ, zero, suc, _<_, _%_}
 use Rattle.std.specs.declared.option.Option.{Option}
 use Rattle.std.specs.declared.option.Option.the-variants.{Some, None}
 
@@ -35,3 +35,8 @@ pub record Field-laws (A : Arithmetic) : Type 0 where
 abbrev pub Inverse-of : Arithmetic → ℕ → Option ℕ → Type 0
 Inverse-of A a None = a % A .order ≡ 0
 Inverse-of A a (Some b) = (A .product a b ≡ 1) × (b < A .order)
+
+-- the sum of f at 0, 1, .. below n
+abbrev pub total : Arithmetic → ℕ → (ℕ → ℕ) → ℕ
+total A zero f = 0
+total A (suc n) f = A .sum (total A n f) (f n)

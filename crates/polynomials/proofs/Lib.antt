@@ -1,4 +1,5 @@
 pub mod Polynomials
+pub mod Coefficients
 pub mod Subjects
 pub mod Wrapping
 pub mod Arrays

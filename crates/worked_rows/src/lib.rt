@@ -1,0 +1,4 @@
+// Worked patterns with their rows.
+mod patterns;
+
+pub use patterns::worked_patterns;
