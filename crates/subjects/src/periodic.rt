@@ -69,7 +69,8 @@ impl<'a> PeriodicArray<'a> {
         periods: &'a [u16],
         cells: &'a [u16],
     ) -> Result<(), SubjectFault>
-        ensures { λ r. ⌜ Cases r (λ _. Array-admitted (F·Field .arithmetic (now (field .entry)) .order) (now (periods .entry)) (now (cells .entry)) × (now (now (self .exit) .periods) ≡ now (periods .entry)) × (now (now (self .exit) .cells) ≡ now (cells .entry))) (λ e. Array-refused (F·Field .arithmetic (now (field .entry)) .order) (now (periods .entry)) (now (cells .entry)) e × (now (self .exit) ≡ now (self .entry))) ⌝ }
+        ensures answer { λ r. ⌜ Cases r (λ _. Array-admitted (F·Field .arithmetic (now (field .entry)) .order) (now (periods .entry)) (now (cells .entry))) (Array-refused (F·Field .arithmetic (now (field .entry)) .order) (now (periods .entry)) (now (cells .entry))) ⌝ }
+        ensures after { λ r. ⌜ Cases r (λ _. (now (now (self .exit) .periods) ≡ now (periods .entry)) × (now (now (self .exit) .cells) ≡ now (cells .entry))) (λ _. now (self .exit) ≡ now (self .entry)) ⌝ }
     {
         let width = count_cells(periods)?;
         if cells.len() != width {

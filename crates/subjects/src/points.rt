@@ -68,7 +68,8 @@ impl<'a> PointSet<'a> {
         points: usize,
         coordinates: &'a [u16],
     ) -> Result<(), SubjectFault>
-        ensures { λ r. ⌜ Cases r (λ _. Points-admitted (F·Field .arithmetic (now (field .entry)) .order) variables points (now (coordinates .entry)) × (now (self .exit) .variables ≡ variables) × (now (self .exit) .points ≡ points) × (now (now (self .exit) .coordinates) ≡ now (coordinates .entry))) (λ e. Points-refused (F·Field .arithmetic (now (field .entry)) .order) variables points (now (coordinates .entry)) e × (now (self .exit) ≡ now (self .entry))) ⌝ }
+        ensures answer { λ r. ⌜ Cases r (λ _. Points-admitted (F·Field .arithmetic (now (field .entry)) .order) variables points (now (coordinates .entry))) (Points-refused (F·Field .arithmetic (now (field .entry)) .order) variables points (now (coordinates .entry))) ⌝ }
+        ensures after { λ r. ⌜ Cases r (λ _. (now (self .exit) .variables ≡ variables) × (now (self .exit) .points ≡ points) × (now (now (self .exit) .coordinates) ≡ now (coordinates .entry))) (λ _. now (self .exit) ≡ now (self .entry)) ⌝ }
     {
         if variables == 0 || variables > MOST_VARIABLES {
             return Err(SubjectFault::Variables);

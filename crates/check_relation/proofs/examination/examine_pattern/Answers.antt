@@ -9,10 +9,10 @@ use Rattle.check_relation.proofs.examination.examine_pattern.Needs as need
 pub returns-in-Break-set : need.returns-in-Break-set
 returns-in-Break-set g c =
     let p = err-from-errBy (c .from-residual .result) (c .from-residual .ensures .1) in
-    rw (p .1, p .2) (refused (c .in-Break-set .ensures tt .0))
+    rw (p .1, p .2) (refused (c .in-Break-set .ensures tt .answer))
 
 pub returns : need.returns
 returns g c =
     let A = g .F·Field .arithmetic (c .args .field .now) in
     let set = c .in-Continue-set .ensures tt in
-    checked (set .0) (subst₂ (λ x y. Checked (array-meaning x y) A (c .args .terms .now) (c .check .result)) (set .1) (set .2) (c .check .ensures))
+    checked (set .answer) (subst₂ (λ x y. Checked (array-meaning x y) A (c .args .terms .now) (c .check .result)) (set .after .0) (set .after .1) (c .check .ensures))

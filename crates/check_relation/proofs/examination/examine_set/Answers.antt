@@ -9,11 +9,11 @@ use Rattle.check_relation.proofs.examination.examine_set.Needs as need
 pub returns-in-Break-set : need.returns-in-Break-set
 returns-in-Break-set g c =
     let p = err-from-errBy (c .from-residual .result) (c .from-residual .ensures .1) in
-    rw (p .1, p .2) (refused (c .in-Break-set .ensures tt .0))
+    rw (p .1, p .2) (refused (c .in-Break-set .ensures tt .answer))
 
 pub returns : need.returns
 returns g c =
     let A = g .F·Field .arithmetic (c .args .field .now) in
     let set = c .in-Continue-set .ensures tt in
-    checked (set .0)
-    (subst₃ (λ x y z. Checked (points-meaning x y z) A (c .args .terms .now) (c .check .result)) (set .1) (set .2) (set .3) (c .check .ensures))
+    checked (set .answer)
+    (subst₃ (λ x y z. Checked (points-meaning x y z) A (c .args .terms .now) (c .check .result)) (set .after .0) (set .after .1) (set .after .2) (c .check .ensures))

@@ -7,4 +7,4 @@ pub returns-in-Break-width : need.returns-in-Break-width
 returns-in-Break-width g c =
     let p = err-from-errBy (c .from-residual .result) (c .from-residual .ensures .1) in
     let q = g .F·Field .arithmetic (c .args .field .now) .order in
-    rw (p .1, p .2) (c .in-Break-width .ensures tt q (c .args .cells .now), refl)
+    record { answer = rw (p .1, p .2) (c .in-Break-width .ensures tt q (c .args .cells .now)); after = rw (p .1) refl }
