@@ -4,7 +4,7 @@ use fields::Residue;
 use std::test::Fail;
 
 // The residues by a modulus.
-pub fn residues(modulus: u16) -> Result<Residue, Fail> {
+pub(crate) fn residues(modulus: u16) -> Result<Residue, Fail> {
     match Residue::new(modulus) {
         Ok(field) => Ok(field),
         Err(_) => Err(Fail::new("the modulus is refused")),
@@ -12,7 +12,7 @@ pub fn residues(modulus: u16) -> Result<Residue, Fail> {
 }
 
 // The binary codes of a degree.
-pub fn binaries(degree: u16) -> Result<Binary, Fail> {
+pub(crate) fn binaries(degree: u16) -> Result<Binary, Fail> {
     match Binary::new(degree) {
         Ok(field) => Ok(field),
         Err(_) => Err(Fail::new("the degree is refused")),
