@@ -9,7 +9,7 @@ use native.Mathlib.Omega.{arith}
 use lib.ListN.{length, getD, take}
 use lib.Seq.{take-all}
 use Rattle.std.proofs.shelf.Lists.{getD-default}
-use Rattle.std.proofs.shelf.Tests.{cases-eq}
+use Rattle.std.proofs.shelf.Tests.{cases-lt}
 use Rattle.polynomials.specs.Arrays.{period, cells-of}
 use Rattle.subjects.specs.ArrayGrounds.{Period-fault}
 
@@ -36,18 +36,18 @@ module _ (ns : List ℕ) (v width : ℕ) (h : v < length ns) (e : width ≡ cell
   wider = ap (λ x. x * getD ns v 0) e ∙ sym (next-cells v ns h) ∙ ap (λ x. cells-of (take x ns)) (sym (add-one v))
 
   -- a product of 0 or above 64 is the period's fault
-  pub faulty : 0 < width → (width * getD ns v 0 ≡ 0) ⊎ (64 < width * getD ns v 0) → Period-fault ns v
+  pub faulty : 0 < width → (width * getD ns v 0 ≤ 64 → width * getD ns v 0 ≡ 0) → Period-fault ns v
   faulty some f = record {
     within = h;
-    outside = elim f [
-      | inl z ↦ inl (getD-default ns v 1 0 h ∙ zero-factor width (getD ns v 0) some z)
-      | inr l ↦ inr (omega (arith, wider))
+    outside = elim (cases-lt 64 (width * getD ns v 0)) [
+      | inl l ↦ inr (omega (arith, wider))
+      | inr b ↦ inl (getD-default ns v 1 0 h ∙ zero-factor width (getD ns v 0) some (f b))
     ];
   }
 
   -- any other is not
-  pub faultless : (width * getD ns v 0 ≡ 0 → ⊥) → width * getD ns v 0 ≤ 64 → Period-fault ns v → ⊥
+  pub faultless : 0 < width * getD ns v 0 → width * getD ns v 0 ≤ 64 → Period-fault ns v → ⊥
   faultless some few f = elim (f .outside) [
-    | inl z ↦ some (ap (λ x. width * x) (getD-default ns v 0 1 h ∙ z) ∙ mul-zero width)
+    | inl z ↦ omega (arith, ap (λ x. width * x) (getD-default ns v 0 1 h ∙ z) ∙ mul-zero width)
     | inr l ↦ omega (arith, wider)
   ]

@@ -2,8 +2,10 @@
 use mathlib.Core.List.{List}
 use mathlib.Core.Logic.{_⊎_}
 use mathlib.Core.Path.{_≡_}
-use Prim.Native.Nat.{ℕ, _+_, _<_}
+use Prim.Native.Nat.{ℕ, _+_, _*_, _<_, _≤_}
 use lib.ListN.{length, take}
+use Rattle.std.specs.declared.option.Option.{Option}
+use Rattle.std.specs.declared.option.Option.the-variants.{Some, None}
 use Rattle.faults.specs.Places.{First-at, None-at}
 use Rattle.faults.specs.declared.subject.SubjectFault.{SubjectFault}
 use Rattle.faults.specs.declared.subject.SubjectFault.the-variants.{Variables, Period, Points, Count, Code, Arithmetic}
@@ -15,6 +17,11 @@ use Rattle.subjects.specs.Variables.{Variables-fit}
 pub record Period-fault (ns : List ℕ) (v : ℕ) : Type 0 where
   pub within : v < length ns
   pub outside : (period ns v ≡ 0) ⊎ (64 < cells-of (take (v + 1) ns))
+
+-- the product with one period more: absent where it is 0 or above 64
+abbrev pub Widened : ℕ → ℕ → Option ℕ → Type 0
+Widened width n None = width * n ≤ 64 → width * n ≡ 0
+Widened width n (Some wider) = (wider ≡ width * n) × (0 < wider) × (wider ≤ 64)
 
 -- 1 to 4 periods, none of them at fault
 pub record Periods-admitted (ns : List ℕ) : Type 0 where

@@ -3,7 +3,7 @@ ghost use mathlib.Core.Path.{_≡_};
 ghost use Rattle.std.specs.declared.option.Option.the-variants.{Some};
 ghost use Rattle.subjects.specs.Checks.{Checked, finding-text};
 ghost use Rattle.polynomials.specs.Subjects.{image-of};
-ghost use Rattle.polynomials.specs.Terms.{poly};
+ghost use Rattle.polynomials.specs.Terms.{poly, monomial-of};
 use crate::subject::Subject;
 use faults::WorksheetFault;
 use fields::Field;
@@ -20,6 +20,20 @@ pub enum Finding {
     Fails(usize),
 }
 
+// A sum with one term more: its code times the image of its monomial.
+fn with_term<S: Subject, F: Field>(
+    subject: &S,
+    field: &F,
+    sum: u16,
+    term: &Term,
+    position: usize,
+) -> u16
+    ensures { λ r. ⌜ r ≡ F·Field .arithmetic (now (field .entry)) .sum sum (F·Field .arithmetic (now (field .entry)) .product (now (term .entry) .code) (S·Subject .meaning (now (subject .entry)) .image (F·Field .arithmetic (now (field .entry))) (monomial-of (now (term .entry))) position)) ⌝ }
+{
+    let image = subject.image(field, &term.monomial, position);
+    field.sum(sum, field.product(term.code, image))
+}
+
 // The code of the polynomial's image at a position: the sum of the terms' codes times the images of their monomials.
 pub fn polynomial_image<S: Subject, F: Field>(
     subject: &S,
@@ -31,8 +45,7 @@ pub fn polynomial_image<S: Subject, F: Field>(
 {
     let mut sum = 0;
     for term in terms {
-        let image = subject.image(field, &term.monomial, position);
-        sum = field.sum(sum, field.product(term.code, image));
+        sum = with_term(subject, field, sum, term, position);
     }
     sum
 }

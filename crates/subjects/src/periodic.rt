@@ -7,7 +7,7 @@ ghost use denote.Ref.{now};
 ghost use Rattle.std.specs.Results.{Cases};
 ghost use Rattle.monomials.specs.Monomials.{mono, times};
 ghost use Rattle.polynomials.specs.Arrays.{array-meaning, infinite-array, cells-of, cell-at, position-of, wrapped, Annihilators-are-valid};
-ghost use Rattle.subjects.specs.ArrayGrounds.{Array-admitted, Array-refused, Periods-admitted};
+ghost use Rattle.subjects.specs.ArrayGrounds.{Array-admitted, Array-refused, Periods-admitted, Widened};
 ghost use Rattle.polynomials.proofs.Arrays.{array-laws};
 use crate::subject::MOST_VARIABLES;
 use crate::subject::Subject;
@@ -32,6 +32,18 @@ pub struct PeriodicArray<'a> {
     ghost full: { length (now cells) ≡ cells-of (now periods) },
 }
 
+// The product with one period more, unless it is 0 or above the most cells.
+fn widened(width: usize, period: u16) -> Option<usize>
+    requires { ⌜ width ≤ 64 ⌝ }
+    ensures { λ r. ⌜ Widened width period r ⌝ }
+{
+    let wider = width * usize::from(period);
+    if wider == 0 || wider > MOST_CELLS {
+        return None;
+    }
+    Some(wider)
+}
+
 // The number of cells of the period.
 fn count_cells(periods: &[u16]) -> Result<usize, SubjectFault>
     ensures { λ r. ⌜ Cases r (λ width. Periods-admitted (now (periods .entry)) × (width ≡ cells-of (now (periods .entry))) × (0 < width) × (width ≤ 64)) (λ e. (order : ℕ) (cells : List ℕ) → Array-refused order (now (periods .entry)) cells e) ⌝ }
@@ -41,10 +53,10 @@ fn count_cells(periods: &[u16]) -> Result<usize, SubjectFault>
     }
     let mut width = 1;
     for (axis, period) in periods.iter().enumerate() {
-        width *= usize::from(*period);
-        if width == 0 || width > MOST_CELLS {
+        let Some(wider) = widened(width, *period) else {
             return Err(SubjectFault::Period(axis));
-        }
+        };
+        width = wider;
     }
     Ok(width)
 }

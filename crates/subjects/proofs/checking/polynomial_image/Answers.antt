@@ -5,7 +5,7 @@ use lib.ListN.{getD, drop}
 use Rattle.fields.proofs.Rings as rings
 use Rattle.monomials.specs.Monomials.{Mono}
 use Rattle.polynomials.specs.Polynomials.{applied}
-use Rattle.polynomials.specs.Terms.{poly, blank}
+use Rattle.polynomials.specs.Terms.{poly, blank, monomial-of}
 use Rattle.polynomials.proofs.Polynomials.{applied-below}
 use Rattle.polynomials.proofs.Terms.{turn, all-summed}
 use Rattle.subjects.proofs.checking.polynomial_image.Needs as need
@@ -23,11 +23,9 @@ loop-term-again g c =
     let f = λ (a : Mono). g .S·Subject .meaning (c .args .subject .now) .image A a (c .args .position) in
     let i = c .loop-term .term-index in
     let ts = c .args .terms .now in
-    let sum = c .loop-term .sum in
-    let product = c .product .ensures ∙ ap (A .product (getD ts i blank .code)) (c .image-image .ensures) in
-    let summed = c .sum-sum .ensures ∙ ap (A .sum sum) product in (
-      subst⁻¹ (λ x. x < A .order) (c .sum-sum .ensures) (L .sum-below sum (c .product .result)),
-      ap (λ x. A .sum x (applied A f (poly (drop (i + 1) ts)))) summed ∙ turn A L f ts i blank sum (c .loop-term-test .taken) ∙ c .loop-term .inv .1,
+    let sum = c .loop-term .sum in (
+      subst⁻¹ (λ x. x < A .order) (c .with-term-sum .ensures) (L .sum-below sum (A .product (getD ts i blank .code) (f (monomial-of (getD ts i blank))))),
+      ap (λ x. A .sum x (applied A f (poly (drop (i + 1) ts)))) (c .with-term-sum .ensures) ∙ turn A L f ts i blank sum (c .loop-term-test .taken) ∙ c .loop-term .inv .1,
     )
 
 pub returns : need.returns

@@ -1,24 +1,22 @@
 -- Each turn takes one period more.
-use mathlib.Core.Path.{_≡_, sym, _∙_, ap, subst}
-use mathlib.Core.Logic.{_⊎_, inl, inr}
-use Prim.Native.Nat.{_*_, _<_, _≤_}
+use mathlib.Core.Path.{_≡_, sym, _∙_, subst}
+use mathlib.Core.Logic.{inl, inr}
+use Prim.Native.Nat.{_<_, _≤_}
 use native.Mathlib.Omega.{arith}
-use lib.ListN.{length, getD}
+use lib.ListN.{length}
 use Rattle.std.proofs.shelf.Tests.{cases-eq, eqb-false}
 use Rattle.subjects.specs.ArrayGrounds.{Period-fault}
 use Rattle.subjects.proofs.Widths.{wider, all-cells, faulty, faultless}
 use Rattle.subjects.proofs.periodic.count_cells.Needs as need
 
-pub returns-then-width-eq0 : need.returns-then-width-eq0
-returns-then-width-eq0 c order cells =
+pub returns-in-rest : need.returns-in-rest
+returns-in-rest c order cells =
     let ns = c .args .periods .now in
     let w = c .loop-axis .width in
     let v = c .loop-axis .axis in
     let (some, few, e, none) = c .loop-axis .inv in
     let left : length ns ≡ 0 → ⊥ = eqb-false (length ns) 0 (sym (c .if-is-empty .ensures tt)) in
-    let wrong : (w * getD ns v 0 ≡ 0) ⊎ (64 < w * getD ns v 0) =
-    subst (λ n. (w * n ≡ 0) ⊎ (64 < w * n)) (c .from-width .ensures) (elim (c .then-width-eq0 .either) [ inl z ↦ inl z | inr l ↦ inr (l .1) ]) in
-    (record { some = omega arith; few = c .if-periods-gt-MOST-VARIABLES .left }, (faulty ns v w (c .loop-axis-test .taken) e some wrong, none))
+    (record { some = omega arith; few = c .if-periods-gt-MOST-VARIABLES .left }, (faulty ns v w (c .loop-axis-test .taken) e some (c .in-rest .ensures tt), none))
 
 pub loop-axis-again : need.loop-axis-again
 loop-axis-again c =
@@ -27,11 +25,11 @@ loop-axis-again c =
     let v = c .loop-axis .axis in
     let (some, few, e, none) = c .loop-axis .inv in
     let h = c .loop-axis-test .taken in
-    let same = ap (λ n. w * n) (c .from-width .ensures) in
-    let fine : Period-fault ns v → ⊥ = faultless ns v w h e (λ z. c .if-width-eq0 .left (same ∙ z)) (subst (λ n. w * n ≤ 64) (c .from-width .ensures) (c .if-width-gt-MOST-CELLS .left)) in (
-      omega arith,
-      c .if-width-gt-MOST-CELLS .left,
-      same ∙ wider ns v w h e,
+    let (is, more, small) = c .in-Some .ensures tt in
+    let fine : Period-fault ns v → ⊥ = faultless ns v w h e (subst (λ x. 0 < x) is more) (subst (λ x. x ≤ 64) is small) in (
+      more,
+      small,
+      is ∙ wider ns v w h e,
       λ j l f. elim (cases-eq j v) [ inl p ↦ fine (subst (Period-fault ns) p f) | inr d ↦ none j (omega arith) f ],
     )
 
