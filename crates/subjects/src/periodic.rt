@@ -1,6 +1,6 @@
 // A periodic array: periods and cells are lent, and only read.
 ghost use mathlib.Core.Path.{_≡_};
-ghost use Prim.Native.Nat.{ℕ, _<_, _≤_};
+ghost use Prim.Native.Nat.{ℕ, _+_, _%_, _<_, _≤_};
 ghost use lib.ListN.{length};
 ghost use mathlib.Core.List.{List, [], _∷_};
 ghost use denote.Ref.{now};
@@ -61,6 +61,14 @@ fn count_cells(periods: &[u16]) -> Result<usize, SubjectFault>
     Ok(width)
 }
 
+// Where along an axis the exponent moves the next coordinate of a position: the remainder of their sum by the period.
+fn moved_along(rest: usize, exponent: u16, period: usize) -> usize
+    requires { ⌜ (0 < period) × (period ≤ 64) ⌝ }
+    ensures { λ r. ⌜ r ≡ (rest % period + exponent) % period ⌝ }
+{
+    (rest % period + usize::from(exponent)) % period
+}
+
 impl<'a> PeriodicArray<'a> {
     // The array of one cell, with code 1.
     pub fn unit() -> PeriodicArray<'a>
@@ -110,8 +118,7 @@ impl<'a> PeriodicArray<'a> {
         let mut rest = position;
         for (axis, period) in self.periods.iter().enumerate() {
             let period = usize::from(*period);
-            let exponent = usize::from(monomial.exponents[axis]);
-            place += scale * ((rest % period + exponent) % period);
+            place += scale * moved_along(rest, monomial.exponents[axis], period);
             scale *= period;
             rest /= period;
         }
