@@ -1,2 +1,4 @@
 pub mod Facts
 pub mod Giving
+pub mod Early
+pub mod Filling
