@@ -1,3 +1,6 @@
 // Refill: the code of the continued array at a monomial, from the lines alone.
+mod entry;
+mod listing;
+mod lookup;
 mod stairs;
 mod table;
