@@ -4,3 +4,4 @@ pub mod Early
 pub mod Filling
 pub mod Loops
 pub mod Listed
+pub mod Passing

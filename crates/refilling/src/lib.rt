@@ -1,5 +1,6 @@
 // Refill: the code of the continued array at a monomial, from the lines alone.
 mod entry;
+mod factor;
 mod listing;
 mod lookup;
 mod stairs;
