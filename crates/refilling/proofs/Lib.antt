@@ -5,3 +5,5 @@ pub mod Filling
 pub mod Loops
 pub mod Listed
 pub mod Passing
+pub mod Walking
+pub mod Refilled

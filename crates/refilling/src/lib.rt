@@ -4,5 +4,9 @@ mod factor;
 mod fill;
 mod listing;
 mod lookup;
+mod refill;
 mod stairs;
 mod table;
+mod walk;
+
+pub use refill::refill_code;
