@@ -8,7 +8,7 @@ use rows::Line;
 use rows::Verdict;
 
 // The stairs of the lines; absent where there are more than 64.
-pub fn list_stairs(lines: &[Line]) -> Option<Stairs>
+pub(crate) fn list_stairs(lines: &[Line]) -> Option<Stairs>
     ensures { λ r. ⌜ Cases r (More-stairs (now (lines .entry))) (Lists-stairs (now (lines .entry))) ⌝ }
 {
     let mut count = 0;

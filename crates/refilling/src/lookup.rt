@@ -15,7 +15,7 @@ use rows::Line;
 use rows::Verdict;
 
 // Whether one monomial is the product of another by a variable; no product is formed, so none overflows.
-pub fn is_product(factor: &Monomial, variable: usize, product: &Monomial) -> bool
+pub(crate) fn is_product(factor: &Monomial, variable: usize, product: &Monomial) -> bool
     ensures { λ r. ⌜ Decides r (Is-product (mono (now (factor .entry) .exponents)) variable (mono (now (product .entry) .exponents))) ⌝ }
 {
     for place in 0..4 {
@@ -28,7 +28,7 @@ pub fn is_product(factor: &Monomial, variable: usize, product: &Monomial) -> boo
 }
 
 // The number of the first stair that is the product.
-pub fn find_stair(stairs: &Stairs, factor: &Monomial, variable: usize) -> Option<usize>
+pub(crate) fn find_stair(stairs: &Stairs, factor: &Monomial, variable: usize) -> Option<usize>
     requires { ⌜ now stairs .count ≤ 64 ⌝ }
     ensures { λ r. ⌜ Cases r ((i : ℕ) → i < now (stairs .entry) .count → Is-product (mono (now (factor .entry) .exponents)) variable (listed-at (now (stairs .entry) .monomials) i) → ⊥) (λ i. (i < now (stairs .entry) .count) × Is-product (mono (now (factor .entry) .exponents)) variable (listed-at (now (stairs .entry) .monomials) i)) ⌝ }
 {
@@ -41,7 +41,7 @@ pub fn find_stair(stairs: &Stairs, factor: &Monomial, variable: usize) -> Option
 }
 
 // The place of the first relation that the product leads.
-pub fn find_relation(lines: &[Line], factor: &Monomial, variable: usize) -> Option<usize>
+pub(crate) fn find_relation(lines: &[Line], factor: &Monomial, variable: usize) -> Option<usize>
     ensures { λ r. ⌜ Cases r ((i : ℕ) → i < length (now (lines .entry)) → is-stair (line-at (now (lines .entry)) i) ≡ false → Is-product (mono (now (factor .entry) .exponents)) variable (monomial-of (line-at (now (lines .entry)) i)) → ⊥) (λ i. (i < length (now (lines .entry))) × (is-stair (line-at (now (lines .entry)) i) ≡ false) × Is-product (mono (now (factor .entry) .exponents)) variable (monomial-of (line-at (now (lines .entry)) i))) ⌝ }
 {
     for (place, line) in lines.iter().enumerate() {
