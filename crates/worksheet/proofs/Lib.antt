@@ -1,0 +1,4 @@
+pub mod Holding
+pub mod Answering
+pub mod Finishing
+pub mod Outcomes

@@ -1,0 +1,7 @@
+// The worksheet: it judges monomial after monomial into lent lines, and answers from them.
+mod answers;
+
+pub use answers::Ending;
+pub use answers::Ran;
+pub use answers::Step;
+pub use answers::Summary;
