@@ -2,3 +2,4 @@ pub mod Holding
 pub mod Answering
 pub mod Finishing
 pub mod Outcomes
+pub mod Selecting

@@ -1,7 +1,12 @@
 // The worksheet: it judges monomial after monomial into lent lines, and answers from them.
 mod answers;
+mod lines;
+mod opening;
+mod selection;
+mod worksheet;
 
 pub use answers::Ending;
 pub use answers::Ran;
 pub use answers::Step;
 pub use answers::Summary;
+pub use worksheet::Worksheet;

@@ -1,0 +1,19 @@
+// The worksheet itself, with what holds of it whatever its past.
+ghost use mathlib.Core.Path.{_≡_};
+ghost use Prim.Native.Nat.{_<_, _≤_};
+ghost use lib.ListN.{length, take};
+ghost use denote.Ref.{now};
+use crate::lines::Lines;
+
+#[derive(Drop)]
+pub struct Worksheet<'a> {
+    pub lent: Lines<'a>,
+    pub used: usize,
+    pub variables: usize,
+    pub width: usize,
+    pub order: u32,
+    ghost room: { used ≤ length (now (lent .lines)) },
+    ghost some: { 1 ≤ variables },
+    ghost few: { variables ≤ 4 },
+    ghost narrow: { width ≤ 64 },
+}
