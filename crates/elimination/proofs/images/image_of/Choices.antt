@@ -1,0 +1,12 @@
+-- Below k the places hold the image, and from k on 0.
+use mathlib.Core.Path.{_≡_}
+use Prim.Native.Nat.{ℕ, _<_, _≤_}
+use lib.ListN.{length, getD}
+use Rattle.monomials.specs.Monomials.{mono}
+use Rattle.elimination.proofs.images.image_of.Given as given
+
+abbrev pub Inv-loop-k : given.InvT-loop-k
+Inv-loop-k g l =
+    (length (l .image) ≡ 64)
+    × ((j : ℕ) → j < l .k → getD (l .image) j 0 ≡ g .S·Subject .meaning (l .subject) .image (g .F·Field .arithmetic (l .field)) (mono (l .monomial .exponents)) j)
+    × ((j : ℕ) → l .k ≤ j → getD (l .image) j 0 ≡ 0)

@@ -1,0 +1,3 @@
+pub mod Echelons
+pub mod Images
+pub mod Clearings

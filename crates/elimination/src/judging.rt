@@ -1,0 +1,41 @@
+// The line of a monomial.
+ghost use mathlib.Core.Path.{_≡_};
+ghost use mathlib.Core.List.{_++_, _∷_, []};
+ghost use Rattle.elimination.specs.Echelons.{Echelon};
+ghost use Rattle.rows.specs.Lines.{All-stand, Stands};
+use crate::clearing::clear;
+use crate::images::first_code;
+use crate::images::image_of;
+use fields::Field;
+use monomials::Monomial;
+use rows::Line;
+use rows::Verdict;
+use subjects::Subject;
+
+// The line of the monomial after the lines before it: it stands where they do, and keeps their echelon form.
+pub fn line_of<S: Subject, F: Field>(
+    subject: &S,
+    field: &F,
+    before: &[Line],
+    monomial: Monomial,
+) -> Line
+    ensures own { λ r. ⌜ r .monomial ≡ monomial ⌝ }
+    ensures stands { λ r. ⌜ (All-stand (S·Subject .meaning (now (subject .entry))) (F·Field .arithmetic (now (field .entry))) (now (before .entry)) → Stands (S·Subject .meaning (now (subject .entry))) (F·Field .arithmetic (now (field .entry))) (now (before .entry)) r) ⌝ }
+    ensures echelon { λ r. ⌜ (Echelon (S·Subject .meaning (now (subject .entry)) .width) (F·Field .arithmetic (now (field .entry)) .order) (now (before .entry)) → Echelon (S·Subject .meaning (now (subject .entry)) .width) (F·Field .arithmetic (now (field .entry)) .order) (now (before .entry) ++ r ∷ [])) ⌝ }
+{
+    let mut image = image_of(subject, field, &monomial);
+    let combination = clear(field, before, subject.width(), &mut image);
+    let pivot = first_code(&image);
+    let verdict = if pivot < 64 {
+        Verdict::Stair
+    } else {
+        Verdict::Relation
+    };
+    Line {
+        monomial,
+        verdict,
+        combination,
+        image,
+        pivot,
+    }
+}
