@@ -3,3 +3,4 @@ pub mod Answering
 pub mod Finishing
 pub mod Outcomes
 pub mod Selecting
+pub mod Soundness

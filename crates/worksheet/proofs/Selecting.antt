@@ -1,12 +1,14 @@
 -- The first of the products seen so far, product by product and stair by stair.
 use mathlib.Core.Path.{_≡_, refl, sym, _∙_, ap, subst, subst⁻¹}
 use mathlib.Core.Logic.{_⊎_, inl, inr}
-use mathlib.Core.Bool.{true, false}
+use mathlib.Core.Bool.{Bool, true, false, not}
 use mathlib.Core.List.{List}
 use Prim.Native.Nat.{ℕ, _+_, _<_}
 use native.Mathlib.Omega.{arith}
 use lib.ListN.{length}
 use Rattle.std.proofs.shelf.Tests.{cases-lt, cases-eq, both-ways}
+use Rattle.std.specs.Orderings.{Decides}
+use Rattle.std.specs.Options.{isSome}
 use Rattle.std.specs.declared.option.Option.{Option}
 use Rattle.std.specs.declared.option.Option.the-variants.{Some, None}
 use Rattle.monomials.specs.Monomials.{Mono, mono, one, times, variable}
@@ -15,7 +17,7 @@ use Rattle.monomials.specs.declared.monomial.Monomial.{Monomial}
 use Rattle.monomials.proofs.Orders as orders
 use Rattle.rows.specs.declared.line.Line.{Line}
 use Rattle.rows.specs.Lines.{monomial-of, line, is-stair}
-use Rattle.rows.specs.Sheets.{Waits}
+use Rattle.rows.specs.Sheets.{Waits, Finished}
 use Rattle.worksheet.specs.Selections.{Open, Open-product, Seen, Chosen, Earlier, Next-or-finished}
 
 -- a choice is one among others that are the same
@@ -130,3 +132,11 @@ one-next m lines O L a e f = record {
     | inr h ↦ omega (arith, e, h .0 .2)
   ];
 }
+
+-- nothing is next exactly where the lines are finished
+pub finished-decided : (m : ℕ) (O : Order) (lines : List Line) (r : Option Monomial) (none : Bool) → isSome r ≡ not none →
+    Next-or-finished m O lines r → Decides none (Finished m lines)
+finished-decided m O lines None true e F = ((λ _. F), λ _. refl)
+finished-decided m O lines None false e F = absurd (both-ways false refl e)
+finished-decided m O lines (Some a) true e N = absurd (both-ways true e refl)
+finished-decided m O lines (Some a) false e N = ((λ e. absurd (both-ways false refl e)), λ F. absurd (F (mono (a .exponents)) (N .waits)))

@@ -2,6 +2,7 @@ pub mod Sheets
 pub mod Freedoms
 pub mod Steps
 pub mod Questions
+pub mod Invariants
 pub mod Selections
 pub mod Views
 pub mod Pasts

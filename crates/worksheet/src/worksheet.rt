@@ -1,8 +1,8 @@
 // The worksheet itself, with what holds of it whatever its past.
-ghost use mathlib.Core.Path.{_≡_};
-ghost use Prim.Native.Nat.{_<_, _≤_};
+ghost use Prim.Native.Nat.{_≤_};
 ghost use lib.ListN.{length, take};
 ghost use denote.Ref.{now};
+ghost use Rattle.worksheet.specs.Invariants.{Sound};
 use crate::lines::Lines;
 
 #[derive(Drop)]
@@ -16,4 +16,5 @@ pub struct Worksheet<'a> {
     ghost some: { 1 ≤ variables },
     ghost few: { variables ≤ 4 },
     ghost narrow: { width ≤ 64 },
+    ghost sound: { ∥ Sound variables width order (take used (now (lent .lines))) ∥₁ },
 }
