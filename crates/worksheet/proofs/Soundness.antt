@@ -96,3 +96,7 @@ products-fit m w q lines narrow sound i l v = ∥∥₁-elim sound le-prop (λ H
   rank-all is-stair lines i,
   few-stairs w q lines (H .echelon),
 ))
+
+-- sound lines have no more stairs than positions
+pub sound-few : (m w q : ℕ) (lines : List Line) → ∥ Sound m w q lines ∥₁ → length (stairs-of lines) ≤ w
+sound-few m w q lines sound = ∥∥₁-elim sound le-prop (λ H. few-stairs w q lines (H .echelon))

@@ -6,4 +6,5 @@ pub mod Invariants
 pub mod Selections
 pub mod Views
 pub mod Pasts
+pub mod Summaries
 pub mod LongRun

@@ -1,8 +1,11 @@
 // The worksheet: it judges monomial after monomial into lent lines, and answers from them.
 mod answers;
+mod judged;
 mod lines;
 mod opening;
+mod reading;
 mod selection;
+mod summing;
 mod worksheet;
 
 pub use answers::Ending;

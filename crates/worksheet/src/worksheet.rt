@@ -7,11 +7,11 @@ use crate::lines::Lines;
 
 #[derive(Drop)]
 pub struct Worksheet<'a> {
-    pub lent: Lines<'a>,
-    pub used: usize,
-    pub variables: usize,
-    pub width: usize,
-    pub order: u32,
+    pub(crate) lent: Lines<'a>,
+    pub(crate) used: usize,
+    pub(crate) variables: usize,
+    pub(crate) width: usize,
+    pub(crate) order: u32,
     ghost room: { used ≤ length (now (lent .lines)) },
     ghost some: { 1 ≤ variables },
     ghost few: { variables ≤ 4 },
