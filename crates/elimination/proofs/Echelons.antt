@@ -36,6 +36,11 @@ module _ (w q : ℕ) (lines : List Line) (E : Echelon w q lines) where
       let P : Placed is-stair lines j = placed is-stair lines j h in
       subst (λ (l : Line). getD (l .image) (l .pivot) 0 ≡ 0 → ⊥) (sym (P .same-line)) (E .alive (P .at) (P .inside) (P .passes))
 
+  pub stair-below : (j : ℕ) → j < length (stairs-of lines) → (k : ℕ) → getD (line (stairs-of lines) j .image) k 0 < q
+  stair-below j h =
+      let P : Placed is-stair lines j = placed is-stair lines j h in
+      subst (λ (l : Line). (k : ℕ) → getD (l .image) k 0 < q) (sym (P .same-line)) (E .images (P .at) (P .inside))
+
   -- a line is zero at the pivots of the stairs before it
   pub line-clear : (i : ℕ) → i < length lines → (j : ℕ) → j < length (stairs-of (take i lines)) → getD (line lines i .image) (line (stairs-of lines) j .pivot) 0 ≡ 0
   line-clear i l j h =
@@ -43,12 +48,15 @@ module _ (w q : ℕ) (lines : List Line) (E : Echelon w q lines) where
       let b : P .at < i = rank-before is-stair lines (P .at) i (omega (arith, P .ranked)) in
       ap (λ (s : Line). getD (line lines i .image) (s .pivot) 0) (P .same-line) ∙ E .clear (P .at) i b l (P .passes)
 
+  -- so is a stair
+  pub stair-clear : (i j : ℕ) → i < j → j < length (stairs-of lines) → getD (line (stairs-of lines) j .image) (line (stairs-of lines) i .pivot) 0 ≡ 0
+  stair-clear i j h l =
+      let P : Placed is-stair lines j = placed is-stair lines j l in
+      ap (λ (s : Line). getD (s .image) (line (stairs-of lines) i .pivot) 0) (P .same-line) ∙ line-clear (P .at) (P .inside) i (omega (arith, P .ranked))
+
   -- the pivots of stairs differ
   pub pivots-apart : (i j : ℕ) → i < j → j < length (stairs-of lines) → line (stairs-of lines) i .pivot ≡ line (stairs-of lines) j .pivot → ⊥
-  pivots-apart i j h l e =
-      let P : Placed is-stair lines j = placed is-stair lines j l in
-      E .alive (P .at) (P .inside) (P .passes)
-      (ap (λ k. getD (line lines (P .at) .image) k 0) (sym (e ∙ ap (λ (s : Line). s .pivot) (P .same-line))) ∙ line-clear (P .at) (P .inside) i (omega (arith, P .ranked)))
+  pivots-apart i j h l e = stair-alive j l (ap (λ k. getD (line (stairs-of lines) j .image) k 0) (sym e) ∙ stair-clear i j h l)
 
   -- there are no more stairs than positions
   pub few-stairs : length (stairs-of lines) ≤ w

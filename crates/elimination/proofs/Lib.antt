@@ -5,3 +5,4 @@ pub mod Echelons
 pub mod Steps
 pub mod Turns
 pub mod Making
+pub mod Remainders

@@ -1,3 +1,4 @@
 pub mod Echelons
 pub mod Images
 pub mod Clearings
+pub mod Remainders

@@ -7,6 +7,9 @@ use fields::Field;
 use rows::Line;
 use rows::Verdict;
 
+// How many stairs have a place in a combination.
+const PLACES: usize = 64;
+
 // The factor by which the line is added to clear an image at the line's pivot; 0 where the line has nothing to clear by.
 fn pivot_factor<F: Field>(field: &F, line: &Line, image: &[u16; 64]) -> u16
     ensures { λ r. ⌜ Clears-at (F·Field .arithmetic (now (field .entry))) (now (line .entry)) (now (image .entry)) r ⌝ }
@@ -40,7 +43,7 @@ fn eliminate<F: Field>(
 }
 
 // Clears the image at the pivots of the stairs among the lines, one after the other, and answers the codes by which
-// the stairs were added. Stairs past the first 64 have no place for a code, and are passed over.
+// the stairs were added. Stairs past the last place have no place for a code, and are passed over.
 pub fn clear<F: Field>(field: &F, lines: &[Line], width: usize, image: &mut [u16; 64]) -> [u16; 64]
     ensures { λ r. ⌜ Cleared (F·Field .arithmetic (now (field .entry))) (min width 64) (now (lines .entry)) (now (image .entry)) (now (image .exit)) r ⌝ }
 {
@@ -48,7 +51,7 @@ pub fn clear<F: Field>(field: &F, lines: &[Line], width: usize, image: &mut [u16
     let mut place = 0;
     for line in lines {
         if let Verdict::Stair = line.verdict {
-            if place < 64 {
+            if place < PLACES {
                 eliminate(field, line, place, width, image, &mut combination);
             }
             place += 1;

@@ -28,8 +28,8 @@ pub fn polynomial_images<S: Subject, F: Field>(subject: &S, field: &F, terms: &[
     ensures { λ r. ⌜ Holds (S·Subject .meaning (now (subject .entry)) .width) (image-of (S·Subject .meaning (now (subject .entry))) (F·Field .arithmetic (now (field .entry))) (poly (now (terms .entry)))) r ⌝ }
 {
     let mut image = [0; 64];
-    for k in 0..subject.width() {
-        image[k] = polynomial_image(subject, field, terms, k);
+    for position in 0..subject.width() {
+        image[position] = polynomial_image(subject, field, terms, position);
     }
     image
 }

@@ -3,6 +3,7 @@ mod clearing;
 mod images;
 mod judging;
 mod multiples;
+mod remaining;
 
 pub use clearing::clear;
 pub use images::first_code;
@@ -11,3 +12,4 @@ pub use images::polynomial_images;
 pub use judging::line_of;
 pub use multiples::add_multiple;
 pub use multiples::clearing_factor;
+pub use remaining::remainder_codes;

@@ -22,6 +22,8 @@ pub fn add_multiple<F: Field>(
 pub fn clearing_factor<F: Field>(field: &F, code: u16, at_pivot: u16) -> Option<u16>
     ensures { λ r. ⌜ Clears (F·Field .arithmetic (now (field .entry))) code «at_pivot» r ⌝ }
 {
-    let inverse = field.inverse(at_pivot)?;
+    let Some(inverse) = field.inverse(at_pivot) else {
+        return None;
+    };
     Some(field.product(field.negative(code), inverse))
 }

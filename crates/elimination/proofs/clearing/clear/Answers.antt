@@ -9,7 +9,7 @@ use Rattle.elimination.specs.Clearings.{Cleared}
 use Rattle.elimination.proofs.Arrays.{zeros}
 use Rattle.elimination.proofs.Steps.{none-cleared}
 use Rattle.elimination.proofs.Turns.{Cleared-to, relation-turn, skipped-turn, stair-turn}
-use Rattle.elimination.proofs.clearing.clear.Needs.{in-Stair, then-place-lt64, else-place-lt64, in-rest}
+use Rattle.elimination.proofs.clearing.clear.Needs.{in-Stair, then-place-lt-PLACES, else-place-lt-PLACES, in-rest}
 use Rattle.elimination.proofs.clearing.clear.Needs as need
 
 pub loop-line-holds : need.loop-line-holds
@@ -35,12 +35,12 @@ loop-line-again g c =
     elim (c .match-line .came) [
       | in-rest w ↦ subst₃ To (sym (w .place-is)) (sym (w .image-is)) (sym (w .combination-is))
           (relation-turn A L n lines i (c .loop-line .place) (c .loop-line-test .taken) _ _ _ (c .loop-line .inv) (w .in-rest .is))
-      | in-Stair w ↦ elim (w .if-place-lt64 .came) [
-        | then-place-lt64 v ↦ subst₃ To (sym (w .place-is)) (sym (w .image-is ∙ v .image-is)) (sym (w .combination-is ∙ v .combination-is))
+      | in-Stair w ↦ elim (w .if-place-lt-PLACES .came) [
+        | then-place-lt-PLACES v ↦ subst₃ To (sym (w .place-is)) (sym (w .image-is ∙ v .image-is)) (sym (w .combination-is ∙ v .combination-is))
             (stair-turn A L n lines i (c .loop-line .place) (c .loop-line-test .taken) _ _ _ (c .loop-line .inv) (w .in-Stair .is)
             (v .eliminate .last .image) (v .eliminate .last .combination) (v .eliminate .ensures .0) (v .eliminate .array-long) (v .eliminate .array-long2) (v .eliminate .ensures .1))
-        | else-place-lt64 v ↦ subst₃ To (sym (w .place-is)) (sym (w .image-is ∙ v .image-is)) (sym (w .combination-is ∙ v .combination-is))
-            (skipped-turn A L n lines i (c .loop-line .place) (c .loop-line-test .taken) _ _ _ (c .loop-line .inv) (w .in-Stair .is) (omega arith) (v .if-place-lt64 .left))
+        | else-place-lt-PLACES v ↦ subst₃ To (sym (w .place-is)) (sym (w .image-is ∙ v .image-is)) (sym (w .combination-is ∙ v .combination-is))
+            (skipped-turn A L n lines i (c .loop-line .place) (c .loop-line-test .taken) _ _ _ (c .loop-line .inv) (w .in-Stair .is) (omega arith) (v .if-place-lt-PLACES .left))
       ]
     ]
 

@@ -4,5 +4,5 @@ use native.Mathlib.Omega.{arith}
 use Rattle.elimination.proofs.Arrays.{zeros}
 use Rattle.elimination.proofs.images.polynomial_images.Needs as need
 
-pub loop-k-holds : need.loop-k-holds
-loop-k-holds g c = (refl, (λ j h. absurd (omega arith)), (λ j h. zeros 64 j))
+pub loop-position-holds : need.loop-position-holds
+loop-position-holds g c = (refl, (λ j h. absurd (omega arith)), (λ j h. zeros 64 j))

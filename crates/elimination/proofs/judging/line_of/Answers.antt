@@ -1,34 +1,31 @@
--- The line that is made stands, whichever verdict it has.
-use mathlib.Core.Path.{_≡_, refl}
-use native.Mathlib.Omega.{arith}
+-- The line that is made of the cleared image stands.
+use mathlib.Core.Path.{_≡_, _∙_, sym, ap, subst, subst₂}
+use mathlib.Core.List.{List}
+use Prim.Native.Nat.{ℕ, min}
 use borrow.Author.Needs.{needs}
-use Rattle.rows.specs.declared.verdict.Verdict.the-variants.{Stair, Relation}
-use Rattle.elimination.proofs.Arrays.{zero-everywhere}
+use lib.ListN.{length}
+use Rattle.monomials.specs.Monomials.{mono}
+use Rattle.monomials.specs.declared.monomial.Monomial.{Monomial}
+use Rattle.elimination.specs.Images.{Holds}
+use Rattle.elimination.specs.Clearings.{Cleared}
 use Rattle.elimination.proofs.Making.{made}
 use Rattle.elimination.proofs.judging.line_of.Needs as need
 
-pub returns-then-pivot-lt64 : need.returns-then-pivot-lt64
-returns-then-pivot-lt64 g c =
-    let S = c .args .subject .now in
-    let F = c .args .field .now in
-    let m = made (g .S·Subject .meaning S) (g .S·Subject .laws S) (g .F·Field .arithmetic F) (g .F·Field·met .laws F)
-    (c .width .result) (c .width .ensures) (c .args .before .now)
-    (record { monomial = c .args .monomial; verdict = Stair; combination = c .clear-combination .result; image = c .clear-combination .last .image; pivot = c .first-code-pivot .result })
-    (c .image-of-image .result) (c .image-of-image .ensures) (c .clear-combination .ensures)
-    (record { exponents = search needs; combination = search needs; image = c .clear-combination .array-long })
-    (c .first-code-pivot .ensures .there (c .if-pivot-lt64 .taken), c .first-code-pivot .ensures .before) in
-    record { own = refl; stands = m .0; echelon = m .1 }
-
-pub returns-else-pivot-lt64 : need.returns-else-pivot-lt64
-returns-else-pivot-lt64 g c =
-    let S = c .args .subject .now in
-    let F = c .args .field .now in
-    let m = made (g .S·Subject .meaning S) (g .S·Subject .laws S) (g .F·Field .arithmetic F) (g .F·Field·met .laws F)
-    (c .width .result) (c .width .ensures) (c .args .before .now)
-    (record { monomial = c .args .monomial; verdict = Relation; combination = c .clear-combination .result; image = c .clear-combination .last .image; pivot = c .first-code-pivot .result })
-    (c .image-of-image .result) (c .image-of-image .ensures) (c .clear-combination .ensures)
-    (record { exponents = search needs; combination = search needs; image = c .clear-combination .array-long }) (
-      omega (arith, c .first-code-pivot .ensures .within, c .if-pivot-lt64 .left),
-      zero-everywhere (c .clear-combination .last .image) (c .first-code-pivot .result) (c .clear-combination .array-long) (c .if-pivot-lt64 .left) (c .first-code-pivot .ensures .before),
-    ) in
-    record { own = refl; stands = m .0; echelon = m .1 }
+pub returns : need.returns
+returns g c =
+    let S = g .S·Subject .meaning (c .args .subject .now) in
+    let A = g .F·Field .arithmetic (c .args .field .now) in
+    let j = c .judged .ensures in
+    let exponents : length (c .args .monomial .exponents) ≡ 4 = search needs in
+    let combination : length (c .clear-combination .result) ≡ 64 = search needs in
+    let m = made S (g .S·Subject .laws (c .args .subject .now)) A (g .F·Field·met .laws (c .args .field .now)) (c .width .result) (c .width .ensures) (c .args .before .now)
+    (c .judged .result) (c .image-of-image .result)
+    (subst (λ (a : Monomial). Holds (S .width) (S .image A (mono (a .exponents))) (c .image-of-image .result)) (sym (j .monomial)) (c .image-of-image .ensures))
+    (subst₂ (λ (x y : List ℕ). Cleared A (min (c .width .result) 64) (c .args .before .now) (c .image-of-image .result) x y) (sym (j .image)) (sym (j .combination)) (c .clear-combination .ensures))
+    (record {
+      exponents = ap (λ (a : Monomial). length (a .exponents)) (j .monomial) ∙ exponents;
+      combination = ap length (j .combination) ∙ combination;
+      image = ap length (j .image) ∙ c .clear-combination .array-long;
+    })
+    (j .says) in
+    record { own = j .monomial; stands = m .0; echelon = m .1 }
