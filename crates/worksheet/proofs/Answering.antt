@@ -27,7 +27,7 @@ use Rattle.worksheet.specs.Steps.{Some-next, Steps, Ends, Runs}
 use Rattle.worksheet.specs.Questions.{Reads}
 use Rattle.worksheet.specs.Pasts.{Call, judged-in}
 use Rattle.worksheet.specs.LongRun.{None-missing, Lines-hold, Answers-hold}
-use Rattle.worksheet.proofs.Holding.{Holds, puts-hold}
+use Rattle.worksheet.proofs.Holding.{Holds, many-hold}
 
 module _ (U : Set-up) (K : Lawful U) (lent row : List Line) (R : Row U row) where
   -- the lines judged are as many as are used
@@ -67,7 +67,7 @@ module _ (U : Set-up) (K : Lawful U) (lent row : List Line) (R : Row U row) wher
   step-says n s H finished after h = ((λ e. done-or-missing n s H .0 (h .1)), λ e. refl)
   step-says n s H (Judged a v) after h = (
     (λ e. let z : _≡_ {A = ℕ} 0 1 = cc in absurd (omega arith)),
-    (λ e. absurd (next-missing n s H (_, h .1 .puts .next) e)),
+    (λ e. absurd (next-missing n s H (_, h .1 .next) e)),
   )
 
   -- when a step is refused
@@ -111,7 +111,7 @@ module _ (U : Set-up) (K : Lawful U) (lent row : List Line) (R : Row U row) wher
             ((λ t. done-or-missing n s H .0 (h .2 .0 t)), λ m. h .2 .1 (done-or-missing n s H .1 m));
         step = step-says n s H;
         step-refused = step-refusal n s H (lines-hold past s H .within);
-        run = λ ran after h. ending-says (n + ran .judged) after (puts-hold U K lent (ran .judged) n s after H (h .1)) (ran .ending) (h .2);
+        run = λ ran after h. ending-says (n + ran .judged) after (many-hold U K lent (ran .judged) n s after H (h .1)) (ran .ending) (h .2);
         run-refused = run-refusal n s H;
         counted = sym e ∙ lines-counted (judged s);
         bounded = subst (λ k. k ≤ U .subject .variables * length (stairs-of (judged s)) + 1) e (lines-bounded U K (judged s) (H .kept));

@@ -10,7 +10,10 @@ use Rattle.std.specs.declared.result.Result.{Result}
 use Rattle.std.specs.declared.result.Result.the-variants.{Ok, Err}
 use Rattle.faults.specs.declared.worksheet.WorksheetFault.{WorksheetFault}
 use Rattle.faults.specs.declared.worksheet.WorksheetFault.the-variants.{Code, OtherSetUp, Unfinished, NoLineLeft, LineNumber, Exponent, Length, Subject}
+use Rattle.monomials.specs.Monomials.{mono}
+use Rattle.monomials.specs.declared.monomial.Monomial.{Monomial}
 use Rattle.rows.specs.declared.line.Line.{Line}
+use Rattle.rows.specs.declared.verdict.Verdict.{Verdict}
 use Rattle.rows.specs.Ideals.{Set-up, Lawful}
 use Rattle.rows.specs.Lines.{monomial-of}
 use Rattle.rows.specs.Sheets.{Next, Kept}
@@ -18,7 +21,7 @@ use Rattle.rows.proofs.Existence.{none-kept, more-kept}
 use Rattle.worksheet.specs.declared.answers.Step.{Step}
 use Rattle.worksheet.specs.declared.answers.Step.the-variants.{Judged, Finished as finished}
 use Rattle.worksheet.specs.Sheets.{Sheet, judged}
-use Rattle.worksheet.specs.Steps.{opened, put-down, Puts, Puts-down, Steps, Runs}
+use Rattle.worksheet.specs.Steps.{opened, Judges, Judges-many, Steps, Runs}
 use Rattle.worksheet.specs.Pasts.{Call, step, run, read, remainder, refill, score, Happens, Past, judged-by, judged-in, Had, Kept-to}
 
 -- n lines were judged under the set-up, and the others are as lent
@@ -66,26 +69,31 @@ module _ (U : Set-up) (K : Lawful U) (lent : List Line) where
     unused = refl;
   }
 
-  -- a line more
-  put-holds : (n : ℕ) (s : Sheet) (l : Line) (after : Sheet) → Holds U lent n s → Puts U s l after → Holds U lent (n + 1) after
-  put-holds n s l after H P = subst⁻¹ (Holds U lent (n + 1)) (P .put) (record {
-    variables = H .variables;
-    width = H .width;
-    order = H .order;
-    count = ap (λ k. k + 1) (H .count);
-    within = omega (arith, length-set (s .lines) (s .used) l, P .unused);
-    kept = subst⁻¹ (Kept U) (take-more-set (s .lines) (s .used) l (P .unused))
-        (more-kept U K (judged s) (H .kept) l (subst (λ m. Next m (U .order) (judged s) (monomial-of l)) (H .variables) (P .next)) (P .stands (H .kept .stands)));
-    unused = drop-set-lt (s .used + 1) (s .lines) (s .used) l (omega arith) ∙ sym (drop-drop 1 (s .used) (s .lines)) ∙
-        ap (drop 1) (H .unused) ∙ drop-drop 1 (s .used) lent;
-  })
+  -- a monomial more
+  judged-holds : (n : ℕ) (s : Sheet) (a : Monomial) (v : Verdict) (after : Sheet) → Holds U lent n s → Judges U s a v after → Holds U lent (n + 1) after
+  judged-holds n s a v after H J =
+      let W = J .written .writes in
+      let l : Line = J .written .line in
+      let next : Next (s .variables) (U .order) (judged s) (monomial-of l) =
+      subst⁻¹ (λ (b : Monomial). Next (s .variables) (U .order) (judged s) (mono (b .exponents))) (J .written .of-monomial) (J .next) in
+      subst⁻¹ (Holds U lent (n + 1)) (W .put) (record {
+        variables = H .variables;
+        width = H .width;
+        order = H .order;
+        count = ap (λ k. k + 1) (H .count);
+        within = omega (arith, length-set (s .lines) (s .used) l, W .unused);
+        kept = subst⁻¹ (Kept U) (take-more-set (s .lines) (s .used) l (W .unused))
+            (more-kept U K (judged s) (H .kept) l (subst (λ m. Next m (U .order) (judged s) (monomial-of l)) (H .variables) next) (W .stands (H .kept .stands)));
+        unused = drop-set-lt (s .used + 1) (s .lines) (s .used) l (omega arith) ∙ sym (drop-drop 1 (s .used) (s .lines)) ∙
+            ap (drop 1) (H .unused) ∙ drop-drop 1 (s .used) lent;
+      })
 
-  -- lines more
-  pub puts-hold : (k n : ℕ) (s after : Sheet) → Holds U lent n s → Puts-down U k s after → Holds U lent (n + k) after
-  puts-hold zero n s after H e = subst⁻¹ (Holds U lent (n + 0)) e (subst⁻¹ (λ i. Holds U lent i s) (add-zero n) H)
-  puts-hold (suc k) n s after H (between, before, (l, P)) =
+  -- monomials more
+  pub many-hold : (k n : ℕ) (s after : Sheet) → Holds U lent n s → Judges-many U k s after → Holds U lent (n + k) after
+  many-hold zero n s after H e = subst⁻¹ (Holds U lent (n + 0)) e (subst⁻¹ (λ i. Holds U lent i s) (add-zero n) H)
+  many-hold (suc k) n s after H (between, before, (a, v, J)) =
       let e : n + k + 1 ≡ n + suc k = omega arith in
-      subst (λ i. Holds U lent i after) e (put-holds (n + k) between l after (puts-hold k n s between H before) P)
+      subst (λ i. Holds U lent i after) e (judged-holds (n + k) between a v after (many-hold k n s between H before) J)
 
   -- what leaves the sheet leaves what holds of it
   same-holds : (n : ℕ) (s after : Sheet) → Holds U lent n s → after ≡ s → Holds U lent (n + 0) after
@@ -94,14 +102,14 @@ module _ (U : Set-up) (K : Lawful U) (lent : List Line) where
   -- a call
   call-holds : (c : Call) (n : ℕ) (s after : Sheet) → Holds U lent n s → Happens c s after → (0 < judged-by c → Had U c) → Holds U lent (n + judged-by c) after
   call-holds (step V (Ok (Judged a v))) n s after H h had =
-      put-holds n s (h .1 .line) after H (subst (λ W. Puts W s (h .1 .line) after) (had (omega arith)) (h .1 .puts))
+      judged-holds n s a v after H (subst (λ W. Judges W s a v after) (had (omega arith)) (h .1))
   call-holds (step V (Ok finished)) n s after H h had = same-holds n s after H (h .2)
   call-holds (step V (Err fault)) n s after H h had = same-holds n s after H (step-refused V s after fault h)
   call-holds (run V (Ok ran)) n s after H h had = go (ran .judged) had (h .1)
     where
-      go : (k : ℕ) → (0 < k → V ≡ U) → Puts-down V k s after → Holds U lent (n + k) after
-      go zero had p = puts-hold zero n s after H p
-      go (suc k) had p = puts-hold (suc k) n s after H (subst (λ W. Puts-down W (suc k) s after) (had (omega arith)) p)
+      go : (k : ℕ) → (0 < k → V ≡ U) → Judges-many V k s after → Holds U lent (n + k) after
+      go zero had p = many-hold zero n s after H p
+      go (suc k) had p = many-hold (suc k) n s after H (subst (λ W. Judges-many W (suc k) s after) (had (omega arith)) p)
   call-holds (run V (Err fault)) n s after H h had = same-holds n s after H (run-refused V s after fault h)
   call-holds (read number place answer place-after) n s after H h had = same-holds n s after H (h .1)
   call-holds (remainder S A terms codes answer codes-after) n s after H h had = same-holds n s after H (h .1)

@@ -8,13 +8,13 @@ use Rattle.std.specs.declared.result.Result.the-variants.{Ok, Err}
 use Rattle.faults.specs.declared.worksheet.WorksheetFault.{WorksheetFault}
 use Rattle.faults.specs.declared.worksheet.WorksheetFault.the-variants.{Code, OtherSetUp, Unfinished, NoLineLeft, LineNumber, Exponent, Length, Subject}
 use Rattle.fields.specs.Arithmetic.{Arithmetic}
-use Rattle.monomials.specs.Monomials.{Mono}
+use Rattle.monomials.specs.Monomials.{Mono, mono}
 use Rattle.monomials.specs.declared.monomial.Monomial.{Monomial}
 use Rattle.polynomials.specs.Subjects.{Subject-meaning}
 use Rattle.rows.specs.declared.line.Line.{Line}
 use Rattle.rows.specs.declared.verdict.Verdict.{Verdict}
 use Rattle.rows.specs.Ideals.{Set-up}
-use Rattle.rows.specs.Lines.{monomial-of, Stands, All-stand}
+use Rattle.rows.specs.Lines.{Stands, All-stand}
 use Rattle.rows.specs.Sheets.{Next}
 use Rattle.worksheet.specs.declared.answers.Step.{Step}
 use Rattle.worksheet.specs.declared.answers.Step.the-variants.{Judged, Finished as finished}
@@ -38,20 +38,24 @@ put-down s l = record {
   lines = set (s .lines) (s .used) l;
 }
 
--- a line for the next monomial is put down; it stands where the lines before it do
-pub record Puts (U : Set-up) (s : Sheet) (l : Line) (after : Sheet) : Type 0 where
+-- the first unused line is written, and no other; it stands where the lines before it do
+pub record Writes (S : Subject-meaning) (A : Arithmetic) (s : Sheet) (l : Line) (after : Sheet) : Type 0 where
   pub unused : s .used < length (s .lines)
-  pub next : Next (s .variables) (U .order) (judged s) (monomial-of l)
   pub free : Free-line s l
-  pub stands : All-stand (U .subject) (U .field) (judged s) → Stands (U .subject) (U .field) (judged s) l
+  pub stands : All-stand S A (judged s) → Stands S A (judged s) l
   pub put : after ≡ put-down s l
 
--- a line with this monomial and this verdict is put down
-pub record Judges (U : Set-up) (s : Sheet) (monomial : Monomial) (verdict : Verdict) (after : Sheet) : Type 0 where
+-- the line written has this monomial and this verdict
+pub record Writes-verdict (S : Subject-meaning) (A : Arithmetic) (s : Sheet) (monomial : Monomial) (verdict : Verdict) (after : Sheet) : Type 0 where
   pub line : Line
   pub of-monomial : line .monomial ≡ monomial
   pub with-verdict : line .verdict ≡ verdict
-  pub puts : Puts U s line after
+  pub writes : Writes S A s line after
+
+-- the next monomial is judged to be this
+pub record Judges (U : Set-up) (s : Sheet) (monomial : Monomial) (verdict : Verdict) (after : Sheet) : Type 0 where
+  pub next : Next (s .variables) (U .order) (judged s) (mono (monomial .exponents))
+  pub written : Writes-verdict (U .subject) (U .field) s monomial verdict after
 
 -- some monomial is next
 abbrev pub Some-next : Set-up → Sheet → Type 0
@@ -70,19 +74,19 @@ Steps U s (Err (Exponent place)) after = ⊥
 Steps U s (Err Length) after = ⊥
 Steps U s (Err (Subject fault)) after = ⊥
 
--- so many lines are put down, one after another
-abbrev pub Puts-down : Set-up → ℕ → Sheet → Sheet → Type 0
-Puts-down U zero s after = after ≡ s
-Puts-down U (suc n) s after = (between : Sheet) × Puts-down U n s between × ((l : Line) × Puts U between l after)
+-- so many monomials are judged, one after another
+abbrev pub Judges-many : Set-up → ℕ → Sheet → Sheet → Type 0
+Judges-many U zero s after = after ≡ s
+Judges-many U (suc n) s after = (between : Sheet) × Judges-many U n s between × ((monomial : Monomial) × (verdict : Verdict) × Judges U between monomial verdict after)
 
 -- why a run ended
 abbrev pub Ends : Set-up → Ending → Sheet → Type 0
 Ends U endings.Finished s = Done s
 Ends U endings.Full s = Some-next U s × (s .used ≡ length (s .lines))
 
--- a run puts lines down until the sheet is finished or no unused line is left; it is refused by other numbers
+-- a run judges until the sheet is finished or no unused line is left; it is refused by other numbers
 abbrev pub Runs : Set-up → Sheet → Result Ran WorksheetFault → Sheet → Type 0
-Runs U s (Ok ran) after = Fits (U .subject) (U .field) s × Puts-down U (ran .judged) s after × Ends U (ran .ending) after
+Runs U s (Ok ran) after = Fits (U .subject) (U .field) s × Judges-many U (ran .judged) s after × Ends U (ran .ending) after
 Runs U s (Err OtherSetUp) after = (Fits (U .subject) (U .field) s → ⊥) × (after ≡ s)
 Runs U s (Err NoLineLeft) after = ⊥
 Runs U s (Err (Code place)) after = ⊥
