@@ -4,3 +4,4 @@ pub mod Finishing
 pub mod Outcomes
 pub mod Selecting
 pub mod Soundness
+pub mod Writing

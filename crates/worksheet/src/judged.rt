@@ -4,9 +4,14 @@ ghost use Prim.Native.Nat.{_≤_};
 ghost use Rattle.std.specs.Orderings.{Decides};
 ghost use Rattle.worksheet.specs.Sheets.{judged, Done};
 ghost use Rattle.worksheet.specs.Questions.{stairs-in};
+ghost use Rattle.worksheet.specs.Selections.{Next-or-finished};
 ghost use Rattle.worksheet.specs.Views.{sheet};
-use crate::selection::is_finished;
+use crate::selection::next;
 use crate::worksheet::Worksheet;
+use monomials::Lexicographic;
+use monomials::LexicographicOrder;
+use monomials::Monomial;
+use monomials::MonomialOrder;
 use rows::Line;
 use rows::count;
 
@@ -18,11 +23,18 @@ impl<'a> Worksheet<'a> {
         self.lent.front(self.used)
     }
 
-    // Whether nothing waits.
+    // The next monomial under the order; none where nothing waits.
+    pub(crate) fn next_monomial<O: MonomialOrder>(&self, order: &O) -> Option<Monomial>
+        ensures { λ r. ⌜ Next-or-finished (now (self .entry) .variables) (O·MonomialOrder .order (now (order .entry))) (judged (sheet (now (self .entry)))) r ⌝ }
+    {
+        next(self.judged(), self.variables, order)
+    }
+
+    // Whether nothing waits: nothing is next, under whichever order.
     pub(crate) fn is_done(&self) -> bool
         ensures { λ r. ⌜ Decides r (Done (sheet (now (self .entry)))) ⌝ }
     {
-        is_finished(self.judged(), self.variables)
+        self.next_monomial(&Lexicographic).is_none()
     }
 
     // How many stairs are judged.

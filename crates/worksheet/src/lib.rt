@@ -5,6 +5,7 @@ mod lines;
 mod opening;
 mod reading;
 mod selection;
+mod stepping;
 mod summing;
 mod worksheet;
 

@@ -1,12 +1,8 @@
 // The next monomial: the first, by the order, of those that wait.
 ghost use Prim.Native.Nat.{_<_, _≤_};
-ghost use Rattle.std.specs.Orderings.{Decides};
 ghost use Rattle.monomials.specs.Monomials.{mono, times, variable as var, exponent};
 ghost use Rattle.monomials.specs.Operations.{largest-exponent};
-ghost use Rattle.rows.specs.Sheets.{Finished};
 ghost use Rattle.worksheet.specs.Selections.{Open-product, Earlier, Next-or-finished, Products-fit};
-use monomials::Lexicographic;
-use monomials::LexicographicOrder;
 use monomials::Monomial;
 use monomials::MonomialOrder;
 use rows::Line;
@@ -62,12 +58,4 @@ pub fn next<O: MonomialOrder>(lines: &[Line], variables: usize, order: &O) -> Op
         }
     }
     chosen
-}
-
-// Whether the lines are finished: nothing is next, under whichever order.
-pub fn is_finished(lines: &[Line], variables: usize) -> bool
-    requires { ⌜ variables ≤ 4 ⌝ ∗ ⌜ Products-fit (now lines) ⌝ }
-    ensures { λ r. ⌜ Decides r (Finished variables (now (lines .entry))) ⌝ }
-{
-    next(lines, variables, &Lexicographic).is_none()
 }
