@@ -5,3 +5,4 @@ pub mod Outcomes
 pub mod Selecting
 pub mod Soundness
 pub mod Writing
+pub mod Runs

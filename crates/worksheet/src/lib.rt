@@ -4,6 +4,7 @@ mod judged;
 mod lines;
 mod opening;
 mod reading;
+mod running;
 mod selection;
 mod stepping;
 mod summing;
