@@ -112,6 +112,10 @@ fits-in w q lines E i h = record {
   short = E .short i h;
 }
 
+-- no lines
+pub echelon-none : (w q : ℕ) → Echelon w q []
+echelon-none w q = echelon-by-lines w q [] (λ i h. absurd (omega arith))
+
 -- a front of the lines
 pub echelon-front : (w q : ℕ) (lines : List Line) → Echelon w q lines → (n : ℕ) → n ≤ length lines → Echelon w q (take n lines)
 echelon-front w q lines E n b = echelon-by-lines w q (take n lines)

@@ -10,13 +10,12 @@ use lib.ListN.{length, getD, take}
 use Rattle.std.proofs.shelf.Tests.{cases-lt}
 use Rattle.fields.specs.Arithmetic.{Arithmetic, Field-laws, total}
 use Rattle.fields.proofs.Rings as rings
-use Rattle.polynomials.specs.Subjects.{Subject-meaning, Subject-laws, image-of}
+use Rattle.polynomials.specs.Subjects.{Subject-meaning, Subject-laws}
 use Rattle.rows.specs.declared.line.Line.{Line}
 use Rattle.rows.specs.declared.verdict.Verdict.the-variants.{Stair as stair, Relation as relation}
-use Rattle.rows.specs.Lines.{monomial-of, line, is-stair, stairs-of, polynomial, Says, Full-length, Stands, All-stand}
+use Rattle.rows.specs.Lines.{monomial-of, line, is-stair, stairs-of, Says, Full-length, Stands, All-stand}
 use Rattle.rows.proofs.Readings.{Placed, placed}
 use Rattle.rows.proofs.Readings
-use Rattle.rows.proofs.Ranks.{rank}
 use Rattle.rows.proofs.Verdicts.{verdict-stair, verdict-relation}
 use Rattle.elimination.specs.Echelons.{Echelon}
 use Rattle.elimination.specs.Images.{Holds}

@@ -2,25 +2,24 @@
 use mathlib.Core.Path.{_≡_, sym, _∙_, ap, subst, subst₂}
 use mathlib.Core.List.{List}
 use Prim.Native.Nat.{ℕ, _<_, _≤_, min}
-use native.Mathlib.Nat.{mod-eq-of-lt, mod-lt}
+use native.Mathlib.Nat.{mod-eq-of-lt}
 use native.Mathlib.Omega.{arith}
 use lib.ListN.{length, getD}
 use Rattle.std.proofs.shelf.Lists.{ext-getD}
-use Rattle.fields.specs.Arithmetic.{Arithmetic, Field-laws, total}
+use Rattle.fields.specs.Arithmetic.{Arithmetic, total}
 use Rattle.fields.proofs.Rings as rings
 use Rattle.fields.proofs.Totals as totals
 use Rattle.fields.proofs.Triangles as triangles
 use Rattle.fields.proofs.Clearings.{cleared-once}
 use Rattle.polynomials.specs.Polynomials.{Poly, In-variables}
-use Rattle.polynomials.specs.Subjects.{Subject-meaning, Subject-laws, image-of}
+use Rattle.polynomials.specs.Subjects.{Subject-meaning, image-of}
 use Rattle.polynomials.proofs.Polynomials.{applied-below}
 use Rattle.rows.specs.declared.line.Line.{Line}
 use Rattle.rows.specs.Ideals.{Set-up, Lawful}
-use Rattle.rows.specs.Lines.{line, is-stair, stairs-of, on-stairs}
+use Rattle.rows.specs.Lines.{line, stairs-of, on-stairs}
 use Rattle.rows.specs.Remainders.{Remains, One-remainder}
 use Rattle.rows.specs.Sheets.{Finished, Kept}
 use Rattle.rows.proofs.Readings
-use Rattle.rows.proofs.Readings.{Placed, placed}
 use Rattle.rows.proofs.Differences.{applied-minus}
 use Rattle.rows.proofs.Keeping.{kept-row}
 use Rattle.rows.proofs.Remaining.{one-remainder}

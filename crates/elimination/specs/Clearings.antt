@@ -15,10 +15,10 @@ pub record Added (A : Arithmetic) (n : ℕ) (before row : List ℕ) (x : ℕ) (a
   pub live : (k : ℕ) → k < n → getD after k 0 ≡ A .sum (getD before k 0) (A .product x (getD row k 0))
   pub rest : (k : ℕ) → n ≤ k → getD after k 0 ≡ getD before k 0
 
--- a factor that clears a code by the code at a pivot: absent where that is zero
+-- the factor that clears a code by the code at a pivot: absent exactly where that is zero
 abbrev pub Clears : Arithmetic → ℕ → ℕ → Option ℕ → Type 0
 Clears A code at-pivot None = at-pivot % A .order ≡ 0
-Clears A code at-pivot (Some x) = (x < A .order) × (A .sum code (A .product x at-pivot) ≡ 0)
+Clears A code at-pivot (Some x) = (at-pivot % A .order ≡ 0 → ⊥) × (x < A .order) × (A .sum code (A .product x at-pivot) ≡ 0)
 
 -- a factor that clears an image at the pivot of a line, if that is one of 64 positions, and the line is not zero there
 pub record Clears-at (A : Arithmetic) (l : Line) (image : List ℕ) (x : ℕ) : Type 0 where

@@ -40,7 +40,7 @@ loop-line-again g c =
             (stair-turn A L n lines i (c .loop-line .place) (c .loop-line-test .taken) _ _ _ (c .loop-line .inv) (w .in-Stair .is)
             (v .eliminate .last .image) (v .eliminate .last .combination) (v .eliminate .ensures .0) (v .eliminate .array-long) (v .eliminate .array-long2) (v .eliminate .ensures .1))
         | else-place-lt-PLACES v ↦ subst₃ To (sym (w .place-is)) (sym (w .image-is ∙ v .image-is)) (sym (w .combination-is ∙ v .combination-is))
-            (skipped-turn A L n lines i (c .loop-line .place) (c .loop-line-test .taken) _ _ _ (c .loop-line .inv) (w .in-Stair .is) (omega arith) (v .if-place-lt-PLACES .left))
+            (skipped-turn A L n lines i (c .loop-line .place) (c .loop-line-test .taken) _ _ _ (c .loop-line .inv) (w .in-Stair .is) (omega arith) (omega (arith, v .if-place-lt-PLACES .left)))
       ]
     ]
 
