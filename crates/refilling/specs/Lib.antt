@@ -1,0 +1,4 @@
+pub mod Refills
+pub mod Borders
+pub mod Tables
+pub mod Walks
