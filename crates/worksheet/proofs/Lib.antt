@@ -6,3 +6,5 @@ pub mod Selecting
 pub mod Soundness
 pub mod Writing
 pub mod Runs
+pub mod Refilled
+pub mod Remained

@@ -4,6 +4,8 @@ mod judged;
 mod lines;
 mod opening;
 mod reading;
+mod refilling;
+mod remaindering;
 mod running;
 mod selection;
 mod stepping;
