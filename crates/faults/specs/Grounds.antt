@@ -26,6 +26,11 @@ of-subject (subjects.Arithmetic fault) = of-arithmetic fault
 
 -- what a fault of the worksheet's layer answers; one of a subject answers as it did there
 abbrev pub of-worksheet : WorksheetFault → Refusal
-of-worksheet (worksheets.Code term) = record { ground = 10; place = term; layer = layers.Worksheet }
+of-worksheet (worksheets.Code place) = record { ground = 10; place = place; layer = layers.Worksheet }
+of-worksheet worksheets.OtherSetUp = record { ground = 11; place = 0; layer = layers.Worksheet }
+of-worksheet worksheets.Unfinished = record { ground = 12; place = 0; layer = layers.Worksheet }
+of-worksheet worksheets.NoLineLeft = record { ground = 13; place = 0; layer = layers.Worksheet }
+of-worksheet worksheets.LineNumber = record { ground = 14; place = 0; layer = layers.Worksheet }
 of-worksheet (worksheets.Exponent term) = record { ground = 15; place = term; layer = layers.Worksheet }
+of-worksheet worksheets.Length = record { ground = 16; place = 0; layer = layers.Worksheet }
 of-worksheet (worksheets.Subject fault) = of-subject fault

@@ -1,4 +1,4 @@
-// The faults of the worksheet's layer, to which a polynomial's terms belong; a fault of a subject stays whole inside.
+// The faults of the worksheet's layer, to which polynomials and lent codes belong; a fault of a subject stays whole inside.
 ghost use mathlib.Core.Path.{_≡_};
 ghost use Rattle.faults.specs.Grounds.{of-worksheet};
 ghost use Rattle.faults.specs.declared.worksheet.WorksheetFault.the-variants.{Subject};
@@ -12,10 +12,20 @@ use crate::subject::SubjectRefuses;
 
 #[derive(Clone, Copy, PartialEq, Eq, Debug)]
 pub enum WorksheetFault {
-    // a term's code is not below the field's order
+    // a term's code, or a lent code, is not below the field's order
     Code(usize),
-    // a term has an exponent above 4,095, or a non-zero one beyond the variables
+    // the worksheet was opened under other numbers of variables, positions or codes
+    OtherSetUp,
+    // the worksheet is not finished
+    Unfinished,
+    // a monomial waits, and no lent line is unused
+    NoLineLeft,
+    // the number is not that of a judged line
+    LineNumber,
+    // a monomial has an exponent above 4,095, or a non-zero one beyond the variables
     Exponent(usize),
+    // the lent codes are not as many as the stairs
+    Length,
     // a fault of a subject, passed up
     Subject(SubjectFault),
 }
@@ -25,8 +35,13 @@ pub impl Fault for WorksheetFault as WorksheetRefuses {
 
     fn refusal(&self) -> Refusal {
         let (ground, place) = match self {
-            WorksheetFault::Code(term) => (10, *term),
+            WorksheetFault::Code(place) => (10, *place),
+            WorksheetFault::OtherSetUp => (11, 0),
+            WorksheetFault::Unfinished => (12, 0),
+            WorksheetFault::NoLineLeft => (13, 0),
+            WorksheetFault::LineNumber => (14, 0),
             WorksheetFault::Exponent(term) => (15, *term),
+            WorksheetFault::Length => (16, 0),
             WorksheetFault::Subject(fault) => return fault.refusal(),
         };
         Refusal {

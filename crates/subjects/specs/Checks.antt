@@ -8,7 +8,7 @@ use Rattle.std.specs.declared.result.Result.{Result}
 use Rattle.std.specs.declared.result.Result.the-variants.{Ok, Err}
 use Rattle.faults.specs.Places.{First-at, None-at}
 use Rattle.faults.specs.declared.worksheet.WorksheetFault.{WorksheetFault}
-use Rattle.faults.specs.declared.worksheet.WorksheetFault.the-variants.{Code, Exponent, Subject}
+use Rattle.faults.specs.declared.worksheet.WorksheetFault.the-variants.{Code, OtherSetUp, Unfinished, NoLineLeft, LineNumber, Exponent, Length, Subject}
 use Rattle.fields.specs.Arithmetic.{Arithmetic}
 use Rattle.subjects.specs.declared.checking.Finding.{Finding}
 use Rattle.subjects.specs.declared.checking.Finding.the-variants.{Holds, Fails}
@@ -25,7 +25,12 @@ pub record Failing-position (S : Subject-meaning) (A : Arithmetic) (p : Poly) (k
 -- refused by a term's code, then by a term's exponents; else the polynomial annihilates, or fails at the position named
 abbrev pub Checked : Subject-meaning → Arithmetic → List Term → Result Finding WorksheetFault → Type 0
 Checked S A ts (Err (Code i)) = First-at (Term-code-fault (A .order) ts) i
+Checked S A ts (Err OtherSetUp) = ⊥
+Checked S A ts (Err Unfinished) = ⊥
+Checked S A ts (Err NoLineLeft) = ⊥
+Checked S A ts (Err LineNumber) = ⊥
 Checked S A ts (Err (Exponent i)) = None-at (Term-code-fault (A .order) ts) × First-at (Exponent-fault (S .variables) ts) i
+Checked S A ts (Err Length) = ⊥
 Checked S A ts (Err (Subject fault)) = ⊥
 Checked S A ts (Ok Holds) = Terms-admitted (S .variables) (A .order) ts × Annihilates S A (poly ts)
 Checked S A ts (Ok (Fails k)) = Terms-admitted (S .variables) (A .order) ts × Failing-position S A (poly ts) k

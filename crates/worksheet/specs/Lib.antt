@@ -1,0 +1,10 @@
+pub mod Sheets
+pub mod Freedoms
+pub mod Steps
+pub mod Questions
+pub mod Invariants
+pub mod Selections
+pub mod Views
+pub mod Pasts
+pub mod Summaries
+pub mod LongRun
