@@ -14,18 +14,18 @@ use worksheet::Worksheet;
 
 const CELLS: [u16; 10] = [3, 5, 9, 6, 0, 10, 8, 4, 7, 2];
 
-// The set-up of a sequence modulo 11, and another field.
-fn fields() -> Result<(Residue, Residue), Fail> {
-    match (Residue::new(11), Residue::new(7)) {
-        (Ok(field), Ok(other)) => Ok((field, other)),
-        _ => Err(Fail::new("a modulus is refused")),
+fn residues_by(modulus: u16) -> Result<Residue, Fail> {
+    match Residue::new(modulus) {
+        Ok(field) => Ok(field),
+        Err(_) => Err(Fail::new("the modulus is refused")),
     }
 }
 
 // Wrong calls change nothing: the sheet ends as it would have without them.
 #[test]
 fn wrong_calls_between() -> Result<(), Fail> {
-    let (field, other) = fields()?;
+    let field = residues_by(11)?;
+    let other = residues_by(7)?;
     let mut array = PeriodicArray::unit();
     check(array.set(&field, &[10], &CELLS).is_ok())?;
     let mut lines = [Line::unused(); 3];
@@ -49,7 +49,7 @@ fn wrong_calls_between() -> Result<(), Fail> {
 // u² leaves 3u + 9, and the codes 0 and 1 are refilled to 3 at u².
 #[test]
 fn remainder_and_refill() -> Result<(), Fail> {
-    let (field, _) = fields()?;
+    let field = residues_by(11)?;
     let mut array = PeriodicArray::unit();
     check(array.set(&field, &[10], &CELLS).is_ok())?;
     let mut lines = [Line::unused(); 3];
@@ -73,7 +73,7 @@ fn remainder_and_refill() -> Result<(), Fail> {
 
 // How many lines a run over so many lent lines judges, and whether it finished.
 fn run_over(lines: &mut [Line]) -> Result<(usize, bool), Fail> {
-    let (field, _) = fields()?;
+    let field = residues_by(11)?;
     let mut array = PeriodicArray::unit();
     check(array.set(&field, &[10], &CELLS).is_ok())?;
     let mut sheet = Worksheet::open(&array, &field, lines);
@@ -88,11 +88,10 @@ fn run_over(lines: &mut [Line]) -> Result<(usize, bool), Fail> {
 
 #[test]
 fn few_lines() -> Result<(), Fail> {
-    let mut lines = [Line::unused(); 4];
-    let none = run_over(&mut lines[0..0])?;
-    let one = run_over(&mut lines[0..1])?;
-    let enough = run_over(&mut lines[0..3])?;
-    let more = run_over(&mut lines)?;
+    let none = run_over(&mut [])?;
+    let one = run_over(&mut [Line::unused(); 1])?;
+    let enough = run_over(&mut [Line::unused(); 3])?;
+    let more = run_over(&mut [Line::unused(); 4])?;
     check(none.0 == 0 && !none.1 && one.0 == 1 && !one.1)?;
     check(enough.0 == 3 && enough.1 && more.0 == 3 && more.1)
 }
