@@ -60,6 +60,7 @@ module _ (U : Set-up) (K : Lawful U) (lent row : List Line) (R : Row U row) wher
         within = subst (λ k. k ≤ length row) e few;
         first = first ∙ ap (λ k. take k row) e;
         unused = H .unused;
+        as-long = H .as-long;
       }
 
   -- what a step says

@@ -33,6 +33,7 @@ pub record Holds (U : Set-up) (lent : List Line) (n : ℕ) (s : Sheet) : Type 0 
   pub within : s .used ≤ length (s .lines)
   pub kept : Kept U (judged s)
   pub unused : drop (s .used) (s .lines) ≡ drop (s .used) lent
+  pub as-long : length (s .lines) ≡ length lent
 
 -- a refused step leaves the sheet
 step-refused : (U : Set-up) (s after : Sheet) (fault : WorksheetFault) → Steps U s (Err fault) after → after ≡ s
@@ -67,6 +68,7 @@ module _ (U : Set-up) (K : Lawful U) (lent : List Line) where
     within = omega arith;
     kept = none-kept U K;
     unused = refl;
+    as-long = refl;
   }
 
   -- a monomial more
@@ -86,6 +88,7 @@ module _ (U : Set-up) (K : Lawful U) (lent : List Line) where
             (more-kept U K (judged s) (H .kept) l (subst (λ m. Next m (U .order) (judged s) (monomial-of l)) (H .variables) next) (W .stands (H .kept .stands)));
         unused = drop-set-lt (s .used + 1) (s .lines) (s .used) l (omega arith) ∙ sym (drop-drop 1 (s .used) (s .lines)) ∙
             ap (drop 1) (H .unused) ∙ drop-drop 1 (s .used) lent;
+        as-long = length-set (s .lines) (s .used) l ∙ H .as-long;
       })
 
   -- monomials more

@@ -41,6 +41,7 @@ pub record Lines-hold (row lent : List Line) (past : List Call) (s : Sheet) : Ty
   pub within : s .used ≤ length row
   pub first : judged s ≡ take (s .used) row
   pub unused : drop (s .used) (s .lines) ≡ drop (s .used) lent
+  pub as-long : length (s .lines) ≡ length lent
 
 -- ANSWERS: what the next reading, step or run says, and how many lines there are
 pub record Answers-hold (U : Set-up) (row : List Line) (past : List Call) (s : Sheet) : Type 0 where

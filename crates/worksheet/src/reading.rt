@@ -1,4 +1,7 @@
 // Reading lines, and the score of an array.
+ghost use mathlib.Core.Path.{_≡_};
+ghost use Prim.Native.Nat.{_*_, _/_, _≤_};
+ghost use Rattle.polynomials.specs.Arrays.{cells-of};
 ghost use Rattle.worksheet.specs.Questions.{Reads, Scores};
 ghost use Rattle.worksheet.specs.Views.{sheet};
 use crate::worksheet::Worksheet;
@@ -6,6 +9,14 @@ use faults::WorksheetFault;
 use rows::Line;
 use subjects::PeriodicArray;
 use subjects::PeriodicSubject;
+
+// 1,000 times the stairs by the cells of the array's period, rounded down.
+fn per_thousand(stairs: usize, array: &PeriodicArray) -> usize
+    requires { ⌜ stairs ≤ 64 ⌝ }
+    ensures { λ r. ⌜ r ≡ 1000 * stairs / cells-of (now (now (array .entry) .periods)) ⌝ }
+{
+    1000 * stairs / array.width()
+}
 
 impl<'a> Worksheet<'a> {
     // Copies the judged line of this number to a lent place, and says whether the sheet is finished.
@@ -19,7 +30,7 @@ impl<'a> Worksheet<'a> {
         Ok(self.is_done())
     }
 
-    // 1,000 times the stairs by the cells of the array's period, rounded down.
+    // How many stairs there are for each thousand cells of the array's period.
     pub fn score(&self, array: &PeriodicArray) -> Result<usize, WorksheetFault>
         ensures { λ r. ⌜ Scores (now (now (array .entry) .periods)) (sheet (now (self .entry))) r ⌝ }
     {
@@ -29,6 +40,6 @@ impl<'a> Worksheet<'a> {
         if !self.is_done() {
             return Err(WorksheetFault::Unfinished);
         }
-        Ok(1000 * self.stairs() / array.width())
+        Ok(per_thousand(self.stairs(), array))
     }
 }

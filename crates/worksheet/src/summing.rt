@@ -7,11 +7,9 @@ use crate::worksheet::Worksheet;
 use rows::count;
 
 impl<'a> Worksheet<'a> {
-    // How many lines are judged, how many of them are stairs and relations, and whether the sheet is finished. Whatever was
-    // called before, the long-run statement holds of the sheet.
-    pub fn summary(&self) -> Summary
-        ensures counts { λ r. ⌜ Summarizes (sheet (now (self .entry))) r ⌝ }
-        ensures long_run { λ _. ⌜ Long-run (sheet (now (self .entry))) ⌝ }
+    // The lines judged, counted.
+    fn counted(&self) -> Summary
+        ensures { λ r. ⌜ Summarizes (sheet (now (self .entry))) r ⌝ }
     {
         let tally = count(self.judged());
         Summary {
@@ -20,5 +18,14 @@ impl<'a> Worksheet<'a> {
             relations: tally.relations,
             finished: self.is_done(),
         }
+    }
+
+    // How many lines are judged, how many of them are stairs and relations, and whether the sheet is finished. Whatever was
+    // called before, the long-run statement holds of the sheet.
+    pub fn summary(&self) -> Summary
+        ensures counts { λ r. ⌜ Summarizes (sheet (now (self .entry))) r ⌝ }
+        ensures long_run { λ _. ⌜ Long-run (sheet (now (self .entry))) ⌝ }
+    {
+        self.counted()
     }
 }

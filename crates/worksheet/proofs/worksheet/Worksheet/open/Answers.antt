@@ -13,7 +13,7 @@ ghost-result g c =
         omega (arith, L .some-variable, c .variables .ensures),
         (
           omega (arith, L .four-variables, c .variables .ensures),
-          (omega (arith, L .narrow, c .width .ensures), (none-sound (c .variables .result) (c .width .result) (c .order .result), tt)),
+          (omega (arith, L .narrow, c .width .ensures), (none-sound _ _ _, tt)),
         ),
       ),
     )
