@@ -27,14 +27,14 @@ fn put_down(lines: &mut [Line], used: usize, line: Line)
 
 impl<'a> Lines<'a> {
     // How many lines are lent.
-    pub fn count(&self) -> usize
+    pub(crate) fn count(&self) -> usize
         ensures { λ r. ⌜ r ≡ length (now (now (self .entry) .lines)) ⌝ }
     {
         self.lines.len()
     }
 
     // The lines that are used.
-    pub fn front(&self, used: usize) -> &[Line]
+    pub(crate) fn front(&self, used: usize) -> &[Line]
         requires { ⌜ used ≤ length (now (now self .lines)) ⌝ }
         ensures { λ r. ⌜ now r ≡ take used (now (now (self .entry) .lines)) ⌝ }
     {
@@ -42,7 +42,7 @@ impl<'a> Lines<'a> {
     }
 
     // Puts the line down at the first place that is not used, and at no other.
-    pub fn write(&mut self, used: usize, line: Line)
+    pub(crate) fn write(&mut self, used: usize, line: Line)
         requires { ⌜ used < length (now (now self .lines)) ⌝ }
         ensures { λ _. ⌜ now (now (self .exit) .lines) ≡ set (now (now (self .entry) .lines)) used line ⌝ }
     {

@@ -40,7 +40,11 @@ fn earlier<O: MonomialOrder>(order: &O, chosen: Option<Monomial>, candidate: Mon
 }
 
 // The next monomial, or none where the lines are finished.
-pub fn next<O: MonomialOrder>(lines: &[Line], variables: usize, order: &O) -> Option<Monomial>
+pub(crate) fn next<O: MonomialOrder>(
+    lines: &[Line],
+    variables: usize,
+    order: &O,
+) -> Option<Monomial>
     requires { ⌜ variables ≤ 4 ⌝ ∗ ⌜ Products-fit (now lines) ⌝ }
     ensures { λ r. ⌜ Next-or-finished variables (O·MonomialOrder .order (now (order .entry))) (now (lines .entry)) r ⌝ }
 {
