@@ -1,12 +1,16 @@
 // The judged lines of small patterns, with combinations, images and pivots.
 use crate::tables::AXES;
 use crate::tables::CORNERS;
+use crate::tables::CUBE_BINARY;
+use crate::tables::CUBE_LEXICOGRAPHIC;
 use crate::tables::Judged;
 use crate::tables::ONE_CELL;
 use crate::tables::POWERS;
 use crate::tables::SEQUENCE;
+use crate::tables::SQUARE_ELEVEN;
 use crate::tables::SQUARE_GRADED;
 use crate::tables::SQUARE_LEXICOGRAPHIC;
+use crate::tables::STRIP_WEIGHTED;
 use crate::tables::ZEROS;
 use fields::Binary;
 use fields::BinaryField;
@@ -20,6 +24,9 @@ use monomials::LexicographicOrder;
 use monomials::Monomial;
 use monomials::MonomialOrder;
 use monomials::MonomialPartialEq;
+use monomials::Weighted;
+use monomials::WeightedOrder;
+use monomials::Weights;
 use rows::Line;
 use rows::Verdict;
 use std::test::*;
@@ -119,7 +126,8 @@ fn square() -> Result<(), Fail> {
     let cells = [1, 0, 0, 1];
     let graded = array_works_out(2, &[2, 2], &cells, &Graded, &SQUARE_GRADED);
     let lexicographic = array_works_out(2, &[2, 2], &cells, &Lexicographic, &SQUARE_LEXICOGRAPHIC);
-    check(graded && lexicographic)
+    let eleven = array_works_out(11, &[2, 2], &[3, 1, 10, 8], &Graded, &SQUARE_ELEVEN);
+    check(graded && lexicographic && eleven)
 }
 
 #[test]
@@ -138,6 +146,60 @@ fn binary() -> Result<(), Fail> {
     let mut array = PeriodicArray::unit();
     check(array.set(&field, &[3], &[1, 2, 3]).is_ok())?;
     check(works_out(&array, &field, &Graded, &POWERS))
+}
+
+// Published patterns, with the lines of another algebra system.
+const CUBE: [u16; 24] = [
+    1,
+    0,
+    0,
+    0,
+    0,
+    0,
+    0,
+    0,
+    1,
+    0,
+    0,
+    0,
+    0,
+    0,
+    1,
+    0,
+    0,
+    0,
+    0,
+    0,
+    0,
+    0,
+    1,
+    0,
+];
+
+const STRIP: [u16; 16] = [1, 0, 0, 0, 0, 0, 0, 0, 65520, 0, 0, 0, 0, 0, 0, 0];
+
+#[test]
+fn cube() -> Result<(), Fail> {
+    let Ok(binary) = Binary::new(8) else {
+        return Err(Fail::new("degree 8 is refused"));
+    };
+    let mut array = PeriodicArray::unit();
+    check(array.set(&binary, &[4, 3, 2], &CUBE).is_ok())?;
+    let graded = works_out(&array, &binary, &Graded, &CUBE_BINARY);
+    let lexicographic = array_works_out(2, &[4, 3, 2], &CUBE, &Lexicographic, &CUBE_LEXICOGRAPHIC);
+    check(graded && lexicographic)
+}
+
+#[test]
+fn strip() -> Result<(), Fail> {
+    let Ok(weights) = Weights::new([1, 3, 0, 0]) else {
+        return Err(Fail::new("the weights are refused"));
+    };
+    let order = Weighted {
+        weights,
+        below: Lexicographic,
+    };
+    check(array_works_out(65521, &[2, 8], &STRIP, &order, &STRIP_WEIGHTED))
 }
 
 #[test]
