@@ -1,7 +1,6 @@
 -- What the next call says of a sheet that is kept to its set-up.
 use mathlib.Core.Path.{_≡_, refl, sym, _∙_, ap, subst, subst⁻¹}
 use mathlib.Core.Logic.{_↔_}
-use mathlib.Core.Bool.{Bool, true}
 use mathlib.Core.List.{List}
 use Prim.Native.Nat.{ℕ, _+_, _*_, _<_, _≤_}
 use native.Mathlib.Omega.{arith}
@@ -12,19 +11,17 @@ use Rattle.faults.specs.declared.worksheet.WorksheetFault.{WorksheetFault}
 use Rattle.faults.specs.declared.worksheet.WorksheetFault.the-variants.{Code, OtherSetUp, Unfinished, NoLineLeft, LineNumber, Exponent, Length, Subject}
 use Rattle.rows.specs.declared.line.Line.{Line}
 use Rattle.rows.specs.Ideals.{Set-up, Lawful}
-use Rattle.rows.specs.Lines.{stairs-of, relations-of}
+use Rattle.rows.specs.Lines.{stairs-of}
 use Rattle.rows.specs.Rows.{Row}
 use Rattle.rows.specs.Sheets.{Finished}
 use Rattle.rows.proofs.Firsts.{first-of-row, finished-length}
 use Rattle.rows.proofs.Counts.{lines-counted, lines-bounded}
 use Rattle.worksheet.specs.declared.answers.Step.{Step}
 use Rattle.worksheet.specs.declared.answers.Step.the-variants.{Judged, Finished as finished}
-use Rattle.worksheet.specs.declared.answers.Ran.{Ran}
 use Rattle.worksheet.specs.declared.answers.Ending.{Ending}
 use Rattle.worksheet.specs.declared.answers.Ending.the-variants as endings
 use Rattle.worksheet.specs.Sheets.{Sheet, judged, Done, Fits}
 use Rattle.worksheet.specs.Steps.{Some-next, Steps, Ends, Runs}
-use Rattle.worksheet.specs.Questions.{Reads}
 use Rattle.worksheet.specs.Pasts.{Call, judged-in}
 use Rattle.worksheet.specs.LongRun.{None-missing, Lines-hold, Answers-hold}
 use Rattle.worksheet.proofs.Holding.{Holds, many-hold}

@@ -1,35 +1,27 @@
 -- What holds of a finished sheet that is kept to its set-up: of any, of a periodic array's, and of a point set's.
 use mathlib.Core.Path.{_≡_, refl, sym, _∙_, ap, subst, subst⁻¹}
 use mathlib.Core.List.{List}
-use Prim.Native.Nat.{ℕ, _%_, _<_, _≤_}
+use Prim.Native.Nat.{ℕ, _<_}
 use native.Mathlib.Nat.{mod-lt}
 use native.Mathlib.Omega.{arith}
-use lib.ListN.{length, getD}
-use Rattle.std.specs.declared.result.Result.{Result}
 use Rattle.std.specs.declared.result.Result.the-variants.{Ok, Err}
-use Rattle.faults.specs.declared.worksheet.WorksheetFault.{WorksheetFault}
 use Rattle.faults.specs.declared.worksheet.WorksheetFault.the-variants.{Code, OtherSetUp, Unfinished, NoLineLeft, LineNumber, Exponent, Length, Subject}
 use Rattle.fields.specs.Arithmetic.{Arithmetic}
-use Rattle.monomials.specs.Monomials.{Mono}
-use Rattle.polynomials.specs.declared.term.Term.{Term}
-use Rattle.polynomials.specs.Polynomials.{Poly}
-use Rattle.polynomials.specs.Subjects.{Subject-meaning, Annihilates}
-use Rattle.polynomials.specs.Arrays.{array-meaning, cells-of, infinite-array}
+use Rattle.polynomials.specs.Subjects.{Annihilates}
+use Rattle.polynomials.specs.Arrays.{array-meaning, cells-of}
 use Rattle.polynomials.specs.Points.{points-meaning}
 use Rattle.polynomials.specs.Terms.{Admitted}
 use Rattle.polynomials.proofs.Arrays.{annihilators-valid}
 use Rattle.polynomials.proofs.Points.{annihilators-vanish}
 use Rattle.rows.specs.declared.line.Line.{Line}
 use Rattle.rows.specs.Ideals.{Set-up, array-set-up, Lawful, In-ideal}
-use Rattle.rows.specs.Lines.{monomial-of, line, stairs-of}
 use Rattle.rows.specs.Sheets.{Finished}
 use Rattle.rows.specs.Rows.{Row}
-use Rattle.rows.specs.Continuation.{Infinite-array, Own-codes, Continues, One-continuation}
+use Rattle.rows.specs.Continuation.{Infinite-array, Continues, One-continuation}
 use Rattle.rows.proofs.Keeping.{kept-row}
 use Rattle.rows.proofs.Cells.{one-continuation, own-cells}
 use Rattle.worksheet.specs.Sheets.{Sheet, judged, Done, set-up}
-use Rattle.worksheet.specs.Questions.{Refills, Leaves}
-use Rattle.worksheet.specs.LongRun.{Codes-on-stairs, Refilled-as, Continuation-holds, less-remainder, Remainders-differ-by, Finished-holds, Array-holds, Points-hold}
+use Rattle.worksheet.specs.LongRun.{Codes-on-stairs, Refilled-as, less-remainder, Remainders-differ-by, Finished-holds, Array-holds, Points-hold}
 use Rattle.worksheet.proofs.Holding.{Holds}
 
 module _ (U : Set-up) (K : Lawful U) (lent : List Line) (n : ℕ) (s : Sheet) (H : Holds U lent n s) (done : Done s) where

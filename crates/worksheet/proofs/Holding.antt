@@ -4,9 +4,8 @@ use mathlib.Core.List.{List, [], _∷_}
 use Prim.Native.Nat.{ℕ, zero, suc, _+_, _<_, _≤_}
 use native.Mathlib.Nat.{add-assoc, add-zero}
 use native.Mathlib.Omega.{arith}
-use lib.ListN.{length, take, drop}
+use lib.ListN.{length, drop}
 use Rattle.std.proofs.shelf.Lists.{length-set, take-more-set, drop-drop, drop-set-lt}
-use Rattle.std.specs.declared.result.Result.{Result}
 use Rattle.std.specs.declared.result.Result.the-variants.{Ok, Err}
 use Rattle.faults.specs.declared.worksheet.WorksheetFault.{WorksheetFault}
 use Rattle.faults.specs.declared.worksheet.WorksheetFault.the-variants.{Code, OtherSetUp, Unfinished, NoLineLeft, LineNumber, Exponent, Length, Subject}
@@ -18,7 +17,6 @@ use Rattle.rows.specs.Ideals.{Set-up, Lawful}
 use Rattle.rows.specs.Lines.{monomial-of}
 use Rattle.rows.specs.Sheets.{Next, Kept}
 use Rattle.rows.proofs.Existence.{none-kept, more-kept}
-use Rattle.worksheet.specs.declared.answers.Step.{Step}
 use Rattle.worksheet.specs.declared.answers.Step.the-variants.{Judged, Finished as finished}
 use Rattle.worksheet.specs.Sheets.{Sheet, judged}
 use Rattle.worksheet.specs.Steps.{opened, Judges, Judges-many, Steps, Runs}

@@ -4,7 +4,6 @@ use mathlib.Core.List.{List}
 use native.Mathlib.Nat.{zero-add}
 use Rattle.rows.specs.declared.line.Line.{Line}
 use Rattle.rows.specs.Ideals.{Set-up, Lawful}
-use Rattle.rows.specs.Rows.{Row}
 use Rattle.rows.proofs.Existence.{row-exists}
 use Rattle.rows.proofs.Firsts.{row-only}
 use Rattle.worksheet.specs.Sheets.{Sheet}

@@ -1,8 +1,7 @@
 -- What refill answers on judged lines that are finished.
-use mathlib.Core.Path.{_≡_, sym, _∙_, subst}
+use mathlib.Core.Path.{_≡_, subst}
 use mathlib.Core.List.{List}
-use Prim.Native.Nat.{ℕ, _<_}
-use lib.ListN.{length}
+use Prim.Native.Nat.{ℕ}
 use Rattle.fields.specs.Arithmetic.{Arithmetic}
 use Rattle.monomials.specs.Monomials.{Mono}
 use Rattle.refilling.specs.Refills as refilling

@@ -1,15 +1,13 @@
 -- What remainder writes on judged lines that are finished.
 use mathlib.Core.Path.{_≡_, refl, _∙_, subst, subst⁻¹}
 use mathlib.Core.List.{List, [], _∷_}
-use Prim.Native.Nat.{ℕ, suc, _<_, _≤_}
+use Prim.Native.Nat.{ℕ, suc}
 use native.Mathlib.Omega.{arith}
-use lib.ListN.{length, getD}
-use Rattle.std.proofs.shelf.Tests.{cases-lt}
+use lib.ListN.{length}
 use mathlib.Core.Logic.{inl, inr}
 use Rattle.elimination.specs.Remainders.{Remainder-of}
 use Rattle.faults.specs.Places.{None-at}
 use Rattle.fields.specs.Arithmetic.{Arithmetic}
-use Rattle.monomials.specs.Monomials.{Within}
 use Rattle.monomials.proofs.Monomials.{cases-within}
 use Rattle.polynomials.specs.declared.term.Term.{Term}
 use Rattle.polynomials.specs.Polynomials.{In-variables}

@@ -6,7 +6,7 @@ use mathlib.Core.List.{List}
 use Prim.Native.Nat.{ℕ, _+_, _<_}
 use native.Mathlib.Omega.{arith}
 use lib.ListN.{length}
-use Rattle.std.proofs.shelf.Tests.{cases-lt, cases-eq, both-ways}
+use Rattle.std.proofs.shelf.Tests.{cases-eq, both-ways}
 use Rattle.std.specs.Orderings.{Decides}
 use Rattle.std.specs.Options.{isSome}
 use Rattle.std.specs.declared.option.Option.{Option}
@@ -18,7 +18,7 @@ use Rattle.monomials.proofs.Orders as orders
 use Rattle.rows.specs.declared.line.Line.{Line}
 use Rattle.rows.specs.Lines.{monomial-of, line, is-stair}
 use Rattle.rows.specs.Sheets.{Waits, Finished}
-use Rattle.worksheet.specs.Selections.{Open, Open-product, Seen, Chosen, Earlier, Next-or-finished}
+use Rattle.worksheet.specs.Selections.{Open, Seen, Chosen, Earlier, Next-or-finished}
 
 -- a choice is one among others that are the same
 chosen-like : (O : Order) (P Q : Mono → Type 0) → ((a : Mono) → P a → Q a) → ((a : Mono) → Q a → P a) → (r : Option Monomial) → Chosen O P r → Chosen O Q r

@@ -1,6 +1,6 @@
 -- Sound lines: none, and one more; their degrees are at most the stairs before them, so their products by variables fit.
-use mathlib.Core.Path.{_≡_, refl, sym, _∙_, ap, subst, subst₂}
-use mathlib.Core.Logic.{_⊎_, inl, inr, ∥∥₁-elim}
+use mathlib.Core.Path.{_≡_, sym, _∙_, ap, subst₂}
+use mathlib.Core.Logic.{inl, inr, ∥∥₁-elim}
 use mathlib.Core.List.{List, [], _∷_, _++_}
 use Prim.Native.Nat.{ℕ, zero, suc, _+_, _<_, _≤_}
 use native.Mathlib.Bridge.{le-prop}
@@ -11,7 +11,7 @@ use Rattle.std.proofs.shelf.Lists.{length-take-le}
 use Rattle.std.proofs.shelf.Filters.{length-kept-by-more}
 use Rattle.elimination.specs.Echelons.{Echelon}
 use Rattle.elimination.proofs.Echelons.{few-stairs}
-use Rattle.monomials.specs.Monomials.{Mono, one, times, variable, exponent, degree}
+use Rattle.monomials.specs.Monomials.{Mono, times, variable, exponent, degree}
 use Rattle.rows.specs.declared.line.Line.{Line}
 use Rattle.rows.specs.Lines.{monomial-of, blank, line, is-stair, stairs-of}
 use Rattle.rows.specs.Sheets.{Waits}

@@ -1,8 +1,8 @@
 -- The line that is made for a monomial that waits: it has the freedom of a step, and the lines stay sound with it.
-use mathlib.Core.Path.{_≡_, sym, _∙_, ap, subst, subst⁻¹, subst₂}
+use mathlib.Core.Path.{_≡_, _∙_, ap, subst, subst⁻¹, subst₂}
 use mathlib.Core.Logic.{∥∥₁-elim, ∥∥₁-map}
 use mathlib.Core.List.{List, [], _∷_, _++_}
-use Prim.Native.Nat.{ℕ, _+_, _<_, _≤_}
+use Prim.Native.Nat.{ℕ, _+_, _<_}
 use native.Mathlib.Bridge.{le-prop}
 use native.Mathlib.Omega.{arith}
 use lib.ListN.{length, getD, take, set}

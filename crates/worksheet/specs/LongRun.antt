@@ -9,7 +9,7 @@ use Rattle.std.specs.declared.result.Result.{Result}
 use Rattle.std.specs.declared.result.Result.the-variants.{Ok, Err}
 use Rattle.faults.specs.declared.worksheet.WorksheetFault.{WorksheetFault}
 use Rattle.fields.specs.Arithmetic.{Arithmetic}
-use Rattle.monomials.specs.Monomials.{Mono, Within}
+use Rattle.monomials.specs.Monomials.{Mono}
 use Rattle.polynomials.specs.declared.term.Term.{Term}
 use Rattle.polynomials.specs.Polynomials.{Poly}
 use Rattle.polynomials.specs.Arrays.{array-meaning, cells-of, infinite-array, Valid}
@@ -20,11 +20,10 @@ use Rattle.rows.specs.Ideals.{Set-up, Lawful, In-ideal}
 use Rattle.rows.specs.Lines.{stairs-of, relations-of, on-stairs}
 use Rattle.rows.specs.Rows.{Row, One-row}
 use Rattle.rows.specs.Continuation.{Infinite-array, Own-codes, One-continuation}
-use Rattle.rows.specs.Remainders.{minus, Remains}
+use Rattle.rows.specs.Remainders.{minus}
 use Rattle.worksheet.specs.declared.answers.Step.{Step}
 use Rattle.worksheet.specs.declared.answers.Step.the-variants.{Finished as finished}
 use Rattle.worksheet.specs.declared.answers.Ran.{Ran}
-use Rattle.worksheet.specs.declared.answers.Ending.{Ending}
 use Rattle.worksheet.specs.declared.answers.Ending.the-variants as endings
 use Rattle.worksheet.specs.Sheets.{Sheet, judged}
 use Rattle.worksheet.specs.Steps.{opened, Steps, Runs}

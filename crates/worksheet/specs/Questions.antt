@@ -24,7 +24,7 @@ use Rattle.rows.specs.Lines.{line, stairs-of}
 use Rattle.rows.specs.Sheets.{Kept}
 use Rattle.rows.specs.Continuation.{Infinite-array, Continues}
 use Rattle.rows.specs.Remainders.{Remains}
-use Rattle.worksheet.specs.Sheets.{Sheet, judged, Done, set-up, Fits, Fits-subject, Fits-field}
+use Rattle.worksheet.specs.Sheets.{Sheet, judged, Done, set-up, Fits, Fits-field}
 use Rattle.worksheet.specs.Freedoms.{Free-codes, Free-code}
 
 -- how many stairs are judged

@@ -1,5 +1,5 @@
 -- The line keeps the echelon form and was made for a monomial that waits, so the sheet stays sound.
-use mathlib.Core.Path.{_≡_, refl, subst, subst⁻¹}
+use mathlib.Core.Path.{refl, subst, subst⁻¹}
 use Prim.Native.Nat.{_+_, _≤_}
 use native.Mathlib.Omega.{arith}
 use lib.ListN.{length}

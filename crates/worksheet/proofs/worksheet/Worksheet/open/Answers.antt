@@ -1,6 +1,4 @@
 -- No line is used, and the numbers are those of a lawful subject.
-use mathlib.Core.Path.{subst⁻¹}
-use Prim.Native.Nat.{_≤_}
 use native.Mathlib.Omega.{arith}
 use Rattle.worksheet.proofs.Soundness.{none-sound}
 use Rattle.worksheet.proofs.worksheet.Worksheet.open.Needs as need

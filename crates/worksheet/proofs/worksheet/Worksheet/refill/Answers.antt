@@ -1,6 +1,6 @@
 -- The grounds are met in their order; then the code is that of the continuation.
 use mathlib.Core.Path.{_≡_, refl, sym, _∙_, subst}
-use Prim.Native.Nat.{ℕ, _<_}
+use Prim.Native.Nat.{_<_}
 use native.Mathlib.Omega.{arith}
 use lib.ListN.{length}
 use Rattle.monomials.specs.Monomials.{mono}
