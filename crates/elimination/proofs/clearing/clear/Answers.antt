@@ -7,7 +7,7 @@ use Rattle.rows.specs.declared.line.Line.{Line}
 use Rattle.elimination.specs.Clearings.{Cleared}
 use Rattle.fields.proofs.Zeros.{zeros}
 use Rattle.elimination.proofs.Turns.{ClearedTo, none_yet, relation_turn, skipped_turn, stair_turn}
-use Rattle.elimination.proofs.clearing.clear.Goals.{in-Stair, then-place-lt-PLACES, else-place-lt-PLACES, in-default}
+use Rattle.elimination.proofs.clearing.clear.Goals.{in-Stair, then-place-lt-PLACES, else-place-lt-PLACES, in_default}
 use Rattle.elimination.proofs.clearing.clear.Goals as goal
 
 pub loop-line-init : goal.loop-line-init
@@ -25,8 +25,8 @@ loop-line-preserved g c =
     let i = c.loop-line.line-index in
     let To = λ (p : ℕ) (x y : List ℕ). ClearedTo A n lines (i + 1) p c.args.image.now x y in
     elim c.match-line.branch [
-      | in-default w ↦ subst₃ To (sym w.place-is) (sym w.image-is) (sym w.combination-is)
-          (relation_turn A L n lines i c.loop-line.place c.loop-line-test.true _ _ _ c.loop-line.invariant w.in-default.is)
+      | in_default w ↦ subst₃ To (sym w.place-is) (sym w.image-is) (sym w.combination-is)
+          (relation_turn A L n lines i c.loop-line.place c.loop-line-test.true _ _ _ c.loop-line.invariant w.in_default.is)
       | in-Stair w ↦ elim w.if-place-lt-PLACES.branch [
         | then-place-lt-PLACES v ↦ subst₃ To (sym w.place-is) (sym (w.image-is ∙ v.image-is)) (sym (w.combination-is ∙ v.combination-is))
             (stair_turn A L n lines i c.loop-line.place c.loop-line-test.true _ _ _ c.loop-line.invariant w.in-Stair.is

@@ -11,7 +11,7 @@ returns-else-pivot-lt64 c =
       combination = refl;
       image = refl;
       says = (
-        omega (arith, c.first-code-pivot.ensures.within, c.if-pivot-lt64.false),
-        zero_everywhere c.args.image c.first-code-pivot.result long c.if-pivot-lt64.false c.first-code-pivot.ensures.before,
+        omega (arith, c.first_code-pivot.ensures.within, c.if-pivot-lt64.false),
+        zero_everywhere c.args.image c.first_code-pivot.result long c.if-pivot-lt64.false c.first_code-pivot.ensures.before,
       );
     }

@@ -15,9 +15,9 @@ returns g c =
     let exponents : length c.args.monomial.exponents ≡ 4 = search rules in
     let combination : length c.clear-combination.result ≡ 64 = search rules in
     let m = made S (g.S.Subject.laws c.args.subject.now) A (g.met.F.Field.laws c.args.field.now) c.width.result c.width.ensures c.args.before.now
-    c.judged.result c.image-of-image.result
-    (subst (λ (a : Monomial). Holds S.width (S.image A (mono a.exponents)) c.image-of-image.result) (sym j.monomial) c.image-of-image.ensures)
-    (subst₂ (λ (x y : List ℕ). Cleared A (min c.width.result 64) c.args.before.now c.image-of-image.result x y) (sym j.image) (sym j.combination) c.clear-combination.ensures.cleared)
+    c.judged.result c.image_of-image.result
+    (subst (λ (a : Monomial). Holds S.width (S.image A (mono a.exponents)) c.image_of-image.result) (sym j.monomial) c.image_of-image.ensures)
+    (subst₂ (λ (x y : List ℕ). Cleared A (min c.width.result 64) c.args.before.now c.image_of-image.result x y) (sym j.image) (sym j.combination) c.clear-combination.ensures.cleared)
     (record {
       exponents = ap (λ (a : Monomial). length a.exponents) j.monomial ∙ exponents;
       combination = ap length j.combination ∙ combination;

@@ -12,7 +12,7 @@ returns-in-Err g c =
     let s = sheet c.args.sheet.now in
     let taken : c.loop-number.number < length c.args.asked.now / 4 = c.loop-number-test.true in
     record {
-      whole = inr (refl, inr (c.loop-number.number, c.in-Err.-fault, taken, subst (λ e. Refills A c.args.codes.now (mono e) s (Err c.in-Err.-fault)) c.monomial-at.ensures c.in-Err.ensures));
+      whole = inr (refl, inr (c.loop-number.number, c.in-Err.-fault, taken, subst (λ e. Refills A c.args.codes.now (mono e) s (Err c.in-Err.-fault)) c.monomial_at.ensures c.in-Err.ensures));
       each = λ i h. absurd (omega arith);
       rest = λ k h. c.loop-number.invariant.1 k (omega (arith, h, taken));
     }
@@ -30,8 +30,8 @@ loop-number-preserved g c =
     let room : length asked / 4 ≤ length c.args.out.now = c.if-count-out.false in
     let long : length out ≡ length c.args.out.now = c.loop-number.auto.out in
     let inside : n < length out = omega (arith, taken, room, long) in
-    let said : Refills A codes (mono c.monomial-at.result.exponents) s (Ok code) = c.in-Ok.ensures in
-    let new : Refilled A codes asked s n code = subst (λ e. Refills A codes (mono e) s (Ok code)) c.monomial-at.ensures said in (
+    let said : Refills A codes (mono c.monomial_at.result.exponents) s (Ok code) = c.in-Ok.ensures in
+    let new : Refilled A codes asked s n code = subst (λ e. Refills A codes (mono e) s (Ok code)) c.monomial_at.ensures said in (
       below_more _ _
           (λ i h. let ne : i ≢ n = omega (arith, h) in subst (λ v. Refilled A codes asked s i v) (sym (get_or-set_other out n i code 0 ne)) (c.loop-number.invariant.0 i h))
           (subst (λ v. Refilled A codes asked s n v) (sym (get_or-set_same out n code 0 inside)) new),

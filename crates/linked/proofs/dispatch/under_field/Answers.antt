@@ -7,10 +7,10 @@ use Rattle.linked.proofs.dispatch.under_field.Goals as goal
 
 pub returns-in-Ok : goal.returns-in-Ok
 returns-in-Ok c =
-    let P : ℕ → Type 0 = λ n. Orders (residues n) c.args.names.order c.args.periods.now c.args.cells.now c.args.task c.args.codes.now c.args.asked.now c.args.out.now c.under-order.result c.under-order.new.out in
+    let P : ℕ → Type 0 = λ n. Orders (residues n) c.args.names.order c.args.periods.now c.args.cells.now c.args.task c.args.codes.now c.args.asked.now c.args.out.now c.under_order.result c.under_order.new.out in
     let said = c.in-Ok.ensures in
     record {
-      by_modulus = λ _ _. subst P said.0 c.under-order.ensures;
+      by_modulus = λ _ _. subst P said.0 c.under_order.ensures;
       by_degree = λ e _. absurd (omega (arith, e, c.in-0.is));
       no_modulus = λ _ no. absurd (no said.1);
       no_degree = λ e _. absurd (omega (arith, e, c.in-0.is));
@@ -29,10 +29,10 @@ returns-in-Err c =
 
 pub returns-in-Ok-new : goal.returns-in-Ok-new
 returns-in-Ok-new c =
-    let P : ℕ → Type 0 = λ n. Orders (binary n) c.args.names.order c.args.periods.now c.args.cells.now c.args.task c.args.codes.now c.args.asked.now c.args.out.now c.under-order-in-Ok-new.result c.under-order-in-Ok-new.new.out in
+    let P : ℕ → Type 0 = λ n. Orders (binary n) c.args.names.order c.args.periods.now c.args.cells.now c.args.task c.args.codes.now c.args.asked.now c.args.out.now c.under_order-in-Ok-new.result c.under_order-in-Ok-new.new.out in
     let said = c.in-Ok-new.ensures in
     record {
-      by_degree = λ _ _. subst P said.0 c.under-order-in-Ok-new.ensures;
+      by_degree = λ _ _. subst P said.0 c.under_order-in-Ok-new.ensures;
       by_modulus = λ e _. absurd (omega (arith, e, c.in-1.is));
       no_degree = λ _ no. absurd (no said.1);
       no_modulus = λ e _. absurd (omega (arith, e, c.in-1.is));

@@ -18,9 +18,9 @@ returns-in-Finished g c =
     let O = g.O.MonomialOrder.order c.args.order.now in
     let lent = replicate 193 c.unused-lines.result in
     let after = sheet c.run.new.self in
-    let same = c.in-default.ensures.after in
+    let same = c.in_default.ensures.after in
     answered after
-    (ran_to A O c.args.periods.now c.args.cells.now array.periods.now array.cells.now same c.in-default.ensures.answer lent refl (sheet c.open-sheet.result)
+    (ran_to A O c.args.periods.now c.args.cells.now array.periods.now array.cells.now same c.in_default.ensures.answer lent refl (sheet c.open-sheet.result)
     c.open-sheet.ensures c.in-Ok.ran after c.in-Ok.ensures endings.Finished c.in-Finished.is)
     (subst₂ (λ x y. Answers c.args.task (array_meaning x y) A c.args.codes.now c.args.asked.now after c.args.out.now c.answer.result c.answer.new.out) same.0 same.1
     c.answer.ensures)
@@ -32,8 +32,8 @@ returns-in-Full g c =
     let O = g.O.MonomialOrder.order c.args.order.now in
     let lent = replicate 193 c.unused-lines.result in
     let after = sheet c.run.new.self in
-    let same = c.in-default.ensures.after in
+    let same = c.in_default.ensures.after in
     full after
-    (ran_to A O c.args.periods.now c.args.cells.now array.periods.now array.cells.now same c.in-default.ensures.answer lent refl (sheet c.open-sheet.result)
+    (ran_to A O c.args.periods.now c.args.cells.now array.periods.now array.cells.now same c.in_default.ensures.answer lent refl (sheet c.open-sheet.result)
     c.open-sheet.ensures c.in-Ok.ran after c.in-Ok.ensures endings.Full c.in-Full.is)
     (refl, refl)

@@ -7,7 +7,7 @@ loop-place-preserved g c =
     let (shuffled, settled) = c.loop-place.invariant in
     let (first, second, others, _) = c.swap.ensures.by_index in
     let place = c.loop-place.place in
-    let least = c.least-from-least in (
+    let least = c.least_from-least in (
       IsPermutation-trans c.args.monomials.now c.loop-place.monomials c.swap.new.self shuffled c.swap.ensures.permutation,
       settled_more (g.O.MonomialOrder.order c.args.under.now) c.loop-place.monomials c.swap.new.self place least.result
           least.ensures.behind least.ensures.within

@@ -14,7 +14,7 @@ loop-code-preserved c =
     let i = c.loop-code.code-index in
     let (so_far, counted) = c.loop-code.invariant in (
       added_more ns (vec_items c.loop-code.entries) (vec_items c.args.entries.now ++ cell_entries ns c.args.first codes) position codes i so_far
-          (Cell (record { coordinates = c.in-Some.coordinates; code = get_or codes i 0 })) (vec_items c.push.new.self) c.in-ok-push.ensures.items (omega arith)
+          (Cell (record { coordinates = c.in-Some.coordinates; code = get_or codes i 0 })) (vec_items c.push.new.self) c.in_ok-push.ensures.items (omega arith)
           (placed_entry c.in-Some.coordinates (cell_at ns position) (get_or codes i 0) (search rules) c.in-Some.ensures.coordinates),
       omega arith,
     )

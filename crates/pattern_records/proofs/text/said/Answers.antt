@@ -22,7 +22,7 @@ pub loop-line-preserved : goal.loop-line-preserved
 loop-line-preserved c =
     let step = c.in-Some.ensures.steps.0 in
     one_more c.args.text.now (lines_rest c.loop-line.line-iterator) c.new-pattern.result c.loop-line.pattern c.loop-line.read c.loop-line.invariant
-    c.in-Some.line.now (lines_rest c.next.new.self) c.take-line.new.pattern (step.0, step.2) c.in-default.ensures (c.in-Some.ensures.goes.on tt).2
+    c.in-Some.line.now (lines_rest c.next.new.self) c.take_line.new.pattern (step.0, step.2) c.in_default.ensures (c.in-Some.ensures.goes.on tt).2
 
 pub returns : goal.returns
 returns c =

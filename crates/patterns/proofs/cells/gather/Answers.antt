@@ -11,11 +11,11 @@ use Rattle.patterns.proofs.cells.gather.Goals as goal
 pub loop-position-init : goal.loop-position-init
 loop-position-init c = (refl, λ k h. absurd (omega arith), λ k h. zeros 64 k)
 
-pub returns-in-default : goal.returns-in-default
-returns-in-default c = (
+pub returns-in_default : goal.returns-in_default
+returns-in_default c = (
   c.loop-position.position,
   subst (λ n. c.loop-position.position < n) c.requires.0 c.loop-position-test.true,
-  λ i h. c.in-default.ensures i (subst (λ a. OfCell c.args.entries.now a i) (sym c.cell-at.ensures) h),
+  λ i h. c.in_default.ensures i (subst (λ a. OfCell c.args.entries.now a i) (sym c.cell_at.ensures) h),
 )
 
 pub loop-position-preserved : goal.loop-position-preserved
@@ -37,7 +37,7 @@ loop-position-preserved c =
           let (i, of, e) = codes k h in
           let other : k ≢ n = omega arith in
           (i, of, get_or-set_other cells n k code 0 other ∙ e))
-          (place, subst (λ a. OfCell es a place) c.cell-at.ensures found, get_or-set_same cells n code 0 small ∙ own),
+          (place, subst (λ a. OfCell es a place) c.cell_at.ensures found, get_or-set_same cells n code 0 small ∙ own),
       λ k h. let other : k ≢ n = omega arith in get_or-set_other cells n k code 0 other ∙ nothing k (omega arith),
     )
 

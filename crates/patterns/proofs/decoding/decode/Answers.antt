@@ -5,10 +5,10 @@ use Rattle.records.specs.Format.{Says}
 use Rattle.patterns.specs.Files.{blank, record_at, entry}
 use Rattle.patterns.proofs.decoding.decode.Goals as goal
 
-pub returns-in-default : goal.returns-in-default
-returns-in-default c = (
-  record { whole = c.if-bytes-ne0.false; few = c.if-count-gt-MOST-RECORDS.false },
-  ((c.loop-number-test.true, c.in-default.ensures), λ j h fault. fault.1 (entry c.loop-number.table j) (c.loop-number.invariant.1 j h)),
+pub returns-in_default : goal.returns-in_default
+returns-in_default c = (
+  record { whole = c.if-bytes-ne0.false; few = c.if-count-gt-MOST_RECORDS.false },
+  ((c.loop-number-test.true, c.in_default.ensures), λ j h fault. fault.1 (entry c.loop-number.table j) (c.loop-number.invariant.1 j h)),
 )
 
 pub loop-number-preserved : goal.loop-number-preserved
@@ -16,7 +16,7 @@ loop-number-preserved c =
     let n = c.loop-number.number in
     let table = c.loop-number.table in
     let long : length table ≡ 67 = c.loop-number.invariant.0 in
-    let inside : n < length table = omega (arith, c.if-count-gt-MOST-RECORDS.false, c.loop-number-test.true) in (
+    let inside : n < length table = omega (arith, c.if-count-gt-MOST_RECORDS.false, c.loop-number-test.true) in (
       length-set table n c.in-Some.entry ∙ long,
       below_more _ _
           (λ j h. let other : j ≢ n = omega arith in subst (Says (record_at c.args.bytes.now j)) (sym (get_or-set_other table n j c.in-Some.entry blank other)) (c.loop-number.invariant.1 j h))
@@ -29,7 +29,7 @@ returns c =
     let table = c.loop-number.table in
     let count = length bytes / 12 in
     let long : length table ≡ 67 = c.loop-number.invariant.0 in
-    let few : count ≤ 67 = c.if-count-gt-MOST-RECORDS.false in
+    let few : count ≤ 67 = c.if-count-gt-MOST_RECORDS.false in
     let enough : count ≤ length table = omega arith in
     let e = length-take-le count table enough in
     record {

@@ -21,5 +21,5 @@ answered ns (Err fault) fit h = by_a_period ns fit fault h
 
 pub returns : goal.returns
 returns c =
-    subst (Wanted c.count-cells.result) c.as-slice.ensures.value
-    (answered c.as-slice.result.now c.count-cells.result c.as-slice.ensures.some-to-four c.count-cells.ensures)
+    subst (Wanted c.count_cells.result) c.as_slice.ensures.value
+    (answered c.as_slice.result.now c.count_cells.result c.as_slice.ensures.some_to_four c.count_cells.ensures)

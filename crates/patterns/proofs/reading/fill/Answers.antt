@@ -5,12 +5,12 @@ use Rattle.patterns.specs.Cells.{CellsAre}
 use Rattle.patterns.specs.Fillings.{by_code}
 use Rattle.patterns.proofs.reading.fill.Goals as goal
 
-pub returns-in-err-check-codes : goal.returns-in-err-check-codes
-returns-in-err-check-codes c =
-    let p = err_from_is_err_and c.from-residual-in-err-check-codes.result c.from-residual-in-err-check-codes.ensures.1 in
-    let (k, is, first, of) = c.in-err-check-codes.ensures in
-    let collected = c.in-ok-cells.ensures in
-    let codes = c.in-ok-cells.cells in
+pub returns-in_err-check_codes : goal.returns-in_err-check_codes
+returns-in_err-check_codes c =
+    let p = err_from_is_err_and c.from_residual-in_err-check_codes.result c.from_residual-in_err-check_codes.ensures.1 in
+    let (k, is, first, of) = c.in_err-check_codes.ensures in
+    let collected = c.in_ok-cells.ensures in
+    let codes = c.in_ok-cells.cells in
     let w = c.args.width in
     let whole : w - 0 ≡ w = omega arith in
     let cells = subst (λ n. CellsAre c.args.periods.now c.args.entries.now (take n codes)) (sym whole) collected.1.first in

@@ -10,13 +10,13 @@ use Rattle.printouts.proofs.Admitting.{admitted}
 use Rattle.printouts.proofs.Texts.{made_so}
 use Rattle.printouts.proofs.printing.printout.Goals as goal
 
-pub under-field-requires : goal.under-field-requires
-under-field-requires c =
+pub under_field-requires : goal.under_field-requires
+under_field-requires c =
     let plan = c.in-Ok.plan in
     let codes = c.read.new.cells in
     let whole : plan.width - 0 ≡ plan.width = omega arith in
     let means = c.in-Ok.ensures.0 in
-    subst₂ (λ ns n. ArrayAdmitted (field_of plan.field).order ns (take n codes)) (sym c.as-slice.ensures.value) (sym whole)
+    subst₂ (λ ns n. ArrayAdmitted (field_of plan.field).order ns (take n codes)) (sym c.as_slice.ensures.value) (sym whole)
     (admitted c.args.bytes.now (pattern_of plan codes) means)
 
 pub returns-in-Ok : goal.returns-in-Ok
@@ -25,10 +25,10 @@ returns-in-Ok c =
     let codes = c.read.new.cells in
     let whole : plan.width - 0 ≡ plan.width = omega arith in
     let means = c.in-Ok.ensures.0 in
-    made_so string_bytes _ (Prints c.args.bytes.now) c.under-field.result c.under-field.ensures
+    made_so string_bytes _ (Prints c.args.bytes.now) c.under_field.result c.under_field.ensures
     (λ text lists.
     taken (pattern_of plan codes) means text
-    (subst₂ (λ ns n. ListsRow (pattern (field_of plan.field) (order_of plan.order) ns (take n codes)) text) c.as-slice.ensures.value whole lists))
+    (subst₂ (λ ns n. ListsRow (pattern (field_of plan.field) (order_of plan.order) ns (take n codes)) text) c.as_slice.ensures.value whole lists))
 
 pub returns-in-Err : goal.returns-in-Err
 returns-in-Err c =

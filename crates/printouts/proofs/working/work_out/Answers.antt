@@ -7,8 +7,8 @@ use Rattle.printouts.proofs.Texts.{made_so}
 use Rattle.printouts.proofs.WorkedOut.{sheet_fits, sheet_few, sheet_done, sheet_listed, sheet_full}
 use Rattle.printouts.proofs.working.work_out.Goals as goal
 
-pub finished-text-requires : goal.finished-text-requires
-finished-text-requires g c =
+pub finished_text-requires : goal.finished_text-requires
+finished_text-requires g c =
     let array = c.set.new.self in
     let A = g.F.Field.arithmetic c.args.field.now in
     let F = g.met.F.Field.laws c.args.field.now in
@@ -33,8 +33,8 @@ returns-in-Finished g c =
     let lent = replicate 193 c.unused-lines.result in
     let s = sheet c.open-sheet.result in
     let after = sheet c.run.new.self in
-    made_so string_bytes _ (ListsRow (pattern A O c.args.periods.now c.args.cells.now)) c.finished-text.result c.finished-text.ensures
-    (sheet_listed array c.args.periods.now c.args.cells.now c.in-default.ensures.after A F O K lent refl s c.open-sheet.ensures c.in-Ok.ran after c.in-Ok.ensures
+    made_so string_bytes _ (ListsRow (pattern A O c.args.periods.now c.args.cells.now)) c.finished_text.result c.finished_text.ensures
+    (sheet_listed array c.args.periods.now c.args.cells.now c.in_default.ensures.after A F O K lent refl s c.open-sheet.ensures c.in-Ok.ran after c.in-Ok.ensures
     c.in-Finished.is)
 
 pub returns-in-Full : goal.returns-in-Full
@@ -47,7 +47,7 @@ returns-in-Full g c =
     let lent = replicate 193 c.unused-lines.result in
     let s = sheet c.open-sheet.result in
     let after = sheet c.run.new.self in
-    made_so string_bytes _ (ListsRow (pattern A O c.args.periods.now c.args.cells.now)) c.refusal-line-in-Full.result c.refusal-line-in-Full.ensures
+    made_so string_bytes _ (ListsRow (pattern A O c.args.periods.now c.args.cells.now)) c.refusal_line-in-Full.result c.refusal_line-in-Full.ensures
     (λ text is.
-    sheet_full array c.args.periods.now c.args.cells.now c.in-default.ensures.after A F O K lent refl s c.open-sheet.ensures c.in-Ok.ran after c.in-Ok.ensures
+    sheet_full array c.args.periods.now c.args.cells.now c.in_default.ensures.after A F O K lent refl s c.open-sheet.ensures c.in-Ok.ran after c.in-Ok.ensures
     c.in-Full.is text (is ∙ ap refusal_line c.refusal-in-Full.ensures))

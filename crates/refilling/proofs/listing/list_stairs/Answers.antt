@@ -7,7 +7,7 @@ use Rattle.refilling.specs.Borders.{stair_at}
 use Rattle.refilling.specs.Tables.{listed_at}
 use Rattle.refilling.proofs.Listed.{stair_room, listed_more}
 use Rattle.refilling.proofs.listing.list_stairs.Goals as goal
-use Rattle.refilling.proofs.listing.list_stairs.Goals.{in-Stair+else-count-eq64, in-default}
+use Rattle.refilling.proofs.listing.list_stairs.Goals.{in-Stair+else-count-eq64, in_default}
 
 pub returns-then-count-eq64 : goal.returns-then-count-eq64
 returns-then-count-eq64 c = omega (arith, stair_room c.args.lines.now c.loop-line.line-index c.loop-line-test.true c.in-Stair.is c.loop-line.count c.loop-line.invariant.2)
@@ -26,8 +26,8 @@ loop-line-preserved c =
                 (listed_more lines c.loop-line.line-index c.loop-line-test.true w.in-Stair.is c.loop-line.count c.loop-line.invariant.2
                 c.loop-line.monomials c.loop-line.invariant.0 few c.loop-line.invariant.3),
           )
-      | in-default w ↦
-          let m = relation_more lines c.loop-line.line-index c.loop-line-test.true w.in-default.is in (
+      | in_default w ↦
+          let m = relation_more lines c.loop-line.line-index c.loop-line-test.true w.in_default.is in (
             ap length w.monomials-is ∙ c.loop-line.invariant.0,
             omega (arith, w.count-is, c.loop-line.invariant.1),
             omega (arith, w.count-is, m.0, c.loop-line.invariant.2),

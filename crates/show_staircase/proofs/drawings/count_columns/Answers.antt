@@ -10,7 +10,7 @@ loop-monomial-preserved c =
     let i = c.loop-monomial.monomial-index in (
       c.max-most.ensures ∙ ap (λ n. max n (get_or listed i blank).u) c.loop-monomial.invariant.0 ∙
           sym (greatest_more (λ m. m.u) listed i c.loop-monomial-test.true),
-      c.max-most.type-inv,
+      c.max-most.type_inv,
     )
 
 pub returns : goal.returns

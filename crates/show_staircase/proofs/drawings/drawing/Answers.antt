@@ -12,14 +12,14 @@ parts ls columns rows marks tens units c r m t u = rw (m, t, u, c, r) refl
 
 pub returns : goal.returns
 returns c =
-    let marks = string_bytes c.in-ok-marks.marks in
-    let tens = string_bytes c.in-ok-tens.tens in
-    let units = string_bytes c.in-ok-units.units in
+    let marks = string_bytes c.in_ok-marks.marks in
+    let tens = string_bytes c.in_ok-tens.tens in
+    let units = string_bytes c.in_ok-units.units in
     IfOk-weaker c.format.result
     (λ text. string_bytes text ≡ marks ++ (tens ++ (units ++ legend)))
     (λ text. string_bytes text ≡ drawing_text c.args.listed.now)
     (λ text e.
-    e ∙ parts c.args.listed.now c.count-columns-columns.result c.count-rows-rows.result marks tens units
-    c.count-columns-columns.ensures c.count-rows-rows.ensures
-    c.in-ok-marks.ensures c.in-ok-tens.ensures c.in-ok-units.ensures)
+    e ∙ parts c.args.listed.now c.count_columns-columns.result c.count_rows-rows.result marks tens units
+    c.count_columns-columns.ensures c.count_rows-rows.ensures
+    c.in_ok-marks.ensures c.in_ok-tens.ensures c.in_ok-units.ensures)
     c.format.ensures.ok

@@ -4,26 +4,26 @@ use Rattle.std.proofs.lemmas.Result.{err_from_is_err_and}
 use Rattle.show_staircase.proofs.Cuts.{line_cut, neither, stair_only, relation_only}
 use Rattle.show_staircase.proofs.entries.entry.Goals as goal
 
-pub returns-in-default : goal.returns-in-default
-returns-in-default c = (inl refl, λ l p. line_cut l.verdict c.args.line.now l.u l.v p None c.in-default.ensures.cases)
+pub returns-in_default : goal.returns-in_default
+returns-in_default c = (inl refl, λ l p. line_cut l.verdict c.args.line.now l.u l.v p None c.in_default.ensures.cases)
 
-pub returns-in-default-word : goal.returns-in-default-word
-returns-in-default-word c = (
+pub returns-in_default-word : goal.returns-in_default-word
+returns-in_default-word c = (
   inl refl,
   λ l p.
       let word = c.in-Some.word in
       let rest = c.in-Some.rest in
       neither l.verdict word.now rest.now l.u l.v
       (line_cut l.verdict c.args.line.now l.u l.v p (Some (word, rest)) c.in-Some.ensures.cases)
-      c.in-default-word.not-stair c.in-default-word.not-rel,
+      c.in_default-word.not-stair c.in_default-word.not-rel,
 )
 
-pub returns-in-err-u : goal.returns-in-err-u
-returns-in-err-u c =
+pub returns-in_err-u : goal.returns-in_err-u
+returns-in_err-u c =
     let word = c.in-Some.word in
     let rest = c.in-Some.rest in
-    let p = err_from_is_err_and c.from-residual.result c.from-residual.ensures.1 in
-    let refused = c.in-err-u.ensures in
+    let p = err_from_is_err_and c.from_residual.result c.from_residual.ensures.1 in
+    let refused = c.in_err-u.ensures in
     rw (p.1, p.2) (
       refused.0,
       λ l q.
@@ -32,12 +32,12 @@ returns-in-err-u c =
           (line_cut l.verdict c.args.line.now l.u l.v q (Some (word, rest)) c.in-Some.ensures.cases) c.in-stair.is),
     )
 
-pub returns-in-err-u-2 : goal.returns-in-err-u-2
-returns-in-err-u-2 c =
+pub returns-in_err-u-2 : goal.returns-in_err-u-2
+returns-in_err-u-2 c =
     let word = c.in-Some.word in
     let rest = c.in-Some.rest in
-    let p = err_from_is_err_and c.from-residual-in-err-u-2.result c.from-residual-in-err-u-2.ensures.1 in
-    let refused = c.in-err-u-2.ensures in
+    let p = err_from_is_err_and c.from_residual-in_err-u-2.result c.from_residual-in_err-u-2.ensures.1 in
+    let refused = c.in_err-u-2.ensures in
     rw (p.1, p.2) (
       refused.0,
       λ l q.
@@ -46,14 +46,14 @@ returns-in-err-u-2 c =
           (line_cut l.verdict c.args.line.now l.u l.v q (Some (word, rest)) c.in-Some.ensures.cases) c.in-rel.is),
     )
 
-pub returns-in-ok-u : goal.returns-in-ok-u
-returns-in-ok-u c =
+pub returns-in_ok-u : goal.returns-in_ok-u
+returns-in_ok-u c =
     let rest = c.in-Some.rest in
     let cut = split_parts 32 c.args.line.now (Some (c.in-Some.word, rest)) c.in-Some.ensures.cases (lit< tt) in
-    (rest.now, cut.0 ∙ ap (λ word. word ++ (32 ∷ rest.now)) {x = c.in-Some.word.now} c.in-stair.is, c.in-ok-u.ensures)
+    (rest.now, cut.0 ∙ ap (λ word. word ++ (32 ∷ rest.now)) {x = c.in-Some.word.now} c.in-stair.is, c.in_ok-u.ensures)
 
-pub returns-in-ok-u-2 : goal.returns-in-ok-u-2
-returns-in-ok-u-2 c =
+pub returns-in_ok-u-2 : goal.returns-in_ok-u-2
+returns-in_ok-u-2 c =
     let rest = c.in-Some.rest in
     let cut = split_parts 32 c.args.line.now (Some (c.in-Some.word, rest)) c.in-Some.ensures.cases (lit< tt) in
-    (rest.now, cut.0 ∙ ap (λ word. word ++ (32 ∷ rest.now)) {x = c.in-Some.word.now} c.in-rel.is, c.in-ok-u-2.ensures)
+    (rest.now, cut.0 ∙ ap (λ word. word ++ (32 ∷ rest.now)) {x = c.in-Some.word.now} c.in-rel.is, c.in_ok-u-2.ensures)

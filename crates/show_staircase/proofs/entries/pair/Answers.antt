@@ -3,8 +3,8 @@ use Rattle.std.proofs.lemmas.Str.Pattern.{split_parts, contains_char}
 use Rattle.show_staircase.proofs.Cuts.{spaceless, pair_cut}
 use Rattle.show_staircase.proofs.entries.pair.Goals as goal
 
-pub returns-in-default : goal.returns-in-default
-returns-in-default c = (inr (inl refl), λ u v p. pair_cut c.args.text.now u v p None c.in-default.ensures.cases)
+pub returns-in_default : goal.returns-in_default
+returns-in_default c = (inr (inl refl), λ u v p. pair_cut c.args.text.now u v p None c.in_default.ensures.cases)
 
 pub returns-then-contains : goal.returns-then-contains
 returns-then-contains c = (
@@ -16,19 +16,19 @@ returns-then-contains c = (
       spaceless second.now halves.1.0 k h e,
 )
 
-pub returns-in-default-exponent : goal.returns-in-default-exponent
-returns-in-default-exponent c = (
+pub returns-in_default-exponent : goal.returns-in_default-exponent
+returns-in_default-exponent c = (
   inr (inr refl),
   λ u v p.
-      c.in-default-exponent.ensures u
+      c.in_default-exponent.ensures u
       (pair_cut c.args.text.now u v p (Some (c.in-Some.first, c.in-Some.second)) c.in-Some.ensures.cases).0,
 )
 
-pub returns-in-default-exponent-2 : goal.returns-in-default-exponent-2
-returns-in-default-exponent-2 c = (
+pub returns-in_default-exponent-2 : goal.returns-in_default-exponent-2
+returns-in_default-exponent-2 c = (
   inr (inr refl),
   λ u v p.
-      c.in-default-exponent-2.ensures v
+      c.in_default-exponent-2.ensures v
       (pair_cut c.args.text.now u v p (Some (c.in-Some.first, c.in-Some.second)) c.in-Some.ensures.cases).1,
 )
 

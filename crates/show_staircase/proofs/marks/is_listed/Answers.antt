@@ -4,15 +4,15 @@ use Rattle.show_staircase.specs.Marks.{listed_as}
 use Rattle.show_staircase.proofs.Searches.{met, passed}
 use Rattle.show_staircase.proofs.marks.is_listed.Goals as goal
 
-pub returns-then-is-at : goal.returns-then-is-at
-returns-then-is-at c =
+pub returns-then-is_at : goal.returns-then-is_at
+returns-then-is_at c =
     sym (met c.args.verdict c.args.u c.args.v c.args.listed.now c.loop-monomial.monomial-index
-    c.loop-monomial-test.true (sym c.is-at.ensures ∙ c.if-is-at.true)) ∙ c.loop-monomial.invariant
+    c.loop-monomial-test.true (sym c.is_at.ensures ∙ c.if-is_at.true)) ∙ c.loop-monomial.invariant
 
 pub loop-monomial-preserved : goal.loop-monomial-preserved
 loop-monomial-preserved c =
     passed c.args.verdict c.args.u c.args.v c.args.listed.now c.loop-monomial.monomial-index
-    c.loop-monomial-test.true (sym c.is-at.ensures ∙ c.if-is-at.false) ∙ c.loop-monomial.invariant
+    c.loop-monomial-test.true (sym c.is_at.ensures ∙ c.if-is_at.false) ∙ c.loop-monomial.invariant
 
 pub returns : goal.returns
 returns c =

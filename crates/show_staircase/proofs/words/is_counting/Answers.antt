@@ -14,11 +14,11 @@ returns-then-eq c = λ lacks.
       λ counted. (
         number.now,
         (split_parts 32 line found cases (lit< tt)).0 ∙ ap (λ first. first ++ (32 ∷ number.now)) (c.eq.ensures.0 c.if-eq.true),
-        c.is-number.ensures.0 counted,
+        c.is_number.ensures.0 counted,
       ),
       λ counting.
           let same = split_after 32 line c.args.word.now counting.0 found cases (lit< tt) counting.1 lacks in
-          c.is-number.ensures.1 (subst⁻¹ Number same.1 counting.2),
+          c.is_number.ensures.1 (subst⁻¹ Number same.1 counting.2),
     )
 
 pub returns-else-eq : goal.returns-else-eq

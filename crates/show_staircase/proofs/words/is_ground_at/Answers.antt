@@ -10,29 +10,29 @@ use Rattle.show_staircase.proofs.words.is_ground_at.Goals as goal
 at_lacks : Lacks 32 (codes "at")
 at_lacks = search rules
 
-pub returns-then-is-number : goal.returns-then-is-number
-returns-then-is-number c =
+pub returns-then-is_number : goal.returns-then-is_number
+returns-then-is_number c =
     let text = c.args.text.now in
     let ground = c.in-Some.ground in
     let tail = c.in-Some.tail in
     let cases = c.in-Some.ensures.cases in
-    let counts = c.is-counting.ensures at_lacks in (
+    let counts = c.is_counting.ensures at_lacks in (
       λ placed. (
         ground.now,
         tail.now,
         (split_parts 32 text (Some (ground, tail)) cases (lit< tt)).0,
-        c.is-number.ensures.0 c.if-is-number.true,
+        c.is_number.ensures.0 c.if-is_number.true,
         counts.0 placed,
       ),
       λ (g, t, e, n, counted).
           counts.1 (subst⁻¹ (Counting (codes "at")) (split_after 32 text g t (Some (ground, tail)) cases (lit< tt) e (spaceless g n.0)).1 counted),
     )
 
-pub returns-else-is-number : goal.returns-else-is-number
-returns-else-is-number c = (
-  λ placed. absurd (clash (sym c.if-is-number.false ∙ placed)),
+pub returns-else-is_number : goal.returns-else-is_number
+returns-else-is_number c = (
+  λ placed. absurd (clash (sym c.if-is_number.false ∙ placed)),
   λ (g, t, e, n, counted).
-      c.is-number.ensures.1
+      c.is_number.ensures.1
       (subst⁻¹ Number
       (split_after 32 c.args.text.now g t (Some (c.in-Some.ground, c.in-Some.tail)) c.in-Some.ensures.cases (lit< tt) e (spaceless g n.0)).0 n),
 )

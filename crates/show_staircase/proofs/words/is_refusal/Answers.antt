@@ -18,10 +18,10 @@ returns-then-eq c =
         rest.now,
         (split_parts 32 line (Some (c.in-Some.word, rest)) cases (lit< tt)).0 ∙
             ap (λ word. word ++ (32 ∷ rest.now)) (c.eq.ensures.0 c.if-eq.true),
-        c.is-ground-at.ensures.0 placed,
+        c.is_ground_at.ensures.0 placed,
       ),
       λ (after, e, placed).
-          c.is-ground-at.ensures.1
+          c.is_ground_at.ensures.1
           (subst⁻¹ GroundAt (split_after 32 line (codes "refused") after (Some (c.in-Some.word, rest)) cases (lit< tt) e refused_lacks).1 placed),
     )
 

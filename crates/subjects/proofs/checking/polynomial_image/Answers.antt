@@ -23,8 +23,8 @@ loop-term-preserved g c =
     let i = c.loop-term.term-index in
     let ts = c.args.terms.now in
     let sum = c.loop-term.sum in (
-      subst⁻¹ (λ x. x < A.order) c.with-term-sum.ensures (L.sum_below sum (A.product (get_or ts i blank).code (f (monomial_of (get_or ts i blank))))),
-      ap (λ x. A.sum x (applied A f (poly (drop (i + 1) ts)))) c.with-term-sum.ensures ∙ turn A L f ts i blank sum c.loop-term-test.true ∙ c.loop-term.invariant.1,
+      subst⁻¹ (λ x. x < A.order) c.with_term-sum.ensures (L.sum_below sum (A.product (get_or ts i blank).code (f (monomial_of (get_or ts i blank))))),
+      ap (λ x. A.sum x (applied A f (poly (drop (i + 1) ts)))) c.with_term-sum.ensures ∙ turn A L f ts i blank sum c.loop-term-test.true ∙ c.loop-term.invariant.1,
     )
 
 pub returns : goal.returns

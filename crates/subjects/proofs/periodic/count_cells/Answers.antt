@@ -5,14 +5,14 @@ use Rattle.subjects.specs.ArrayGrounds.{PeriodFault}
 use Rattle.subjects.proofs.Widths.{wider, all_cells, faulty, faultless}
 use Rattle.subjects.proofs.periodic.count_cells.Goals as goal
 
-pub returns-in-default : goal.returns-in-default
-returns-in-default c =
+pub returns-in_default : goal.returns-in_default
+returns-in_default c =
     let ns = c.args.periods.now in
     let w = c.loop-axis.width in
     let v = c.loop-axis.axis in
     let (some, few, e, none) = c.loop-axis.invariant in
-    let left : length ns ≡ 0 → ⊥ = eqb-false (length ns) 0 (sym c.if-is-empty.ensures) in
-    (record { some = omega arith; few = c.if-periods-gt-MOST-VARIABLES.false }, (faulty ns v w c.loop-axis-test.true e some c.in-default.ensures, none))
+    let left : length ns ≡ 0 → ⊥ = eqb-false (length ns) 0 (sym c.if-is_empty.ensures) in
+    (record { some = omega arith; few = c.if-periods-gt-MOST_VARIABLES.false }, (faulty ns v w c.loop-axis-test.true e some c.in_default.ensures, none))
 
 pub loop-axis-preserved : goal.loop-axis-preserved
 loop-axis-preserved c =
@@ -33,9 +33,9 @@ pub returns : goal.returns
 returns c =
     let ns = c.args.periods.now in
     let (some, few, e, none) = c.loop-axis.invariant in
-    let left : length ns ≡ 0 → ⊥ = eqb-false (length ns) 0 (sym c.if-is-empty.ensures) in (
+    let left : length ns ≡ 0 → ⊥ = eqb-false (length ns) 0 (sym c.if-is_empty.ensures) in (
       record {
-        variables = record { some = omega arith; few = c.if-periods-gt-MOST-VARIABLES.false };
+        variables = record { some = omega arith; few = c.if-periods-gt-MOST_VARIABLES.false };
         faultless = λ j f. none j (omega (arith, f.within)) f;
       },
       e ∙ all_cells c.loop-axis.axis ns c.loop-axis-test.false,

@@ -7,6 +7,6 @@ use Rattle.std.specs.Ordering.{is_lt}
 
 pub returns : goal.returns
 returns c = record {
-  meaning = c.compare-exponents.ensures;
-  leftmost = Decides-at _ _ (ap is_lt c.compare-exponents.ensures) (leftmost_decides (mono c.args.a.now.exponents) (mono c.args.b.now.exponents));
+  meaning = c.compare_exponents.ensures;
+  leftmost = Decides-at _ _ (ap is_lt c.compare_exponents.ensures) (leftmost_decides (mono c.args.a.now.exponents) (mono c.args.b.now.exponents));
 }

@@ -9,10 +9,10 @@ returns-in-Unknown-clause-writes g c = λ plain ok.
 
 pub returns-in-EarlyCells-clause-writes : goal.returns-in-EarlyCells-clause-writes
 returns-in-EarlyCells-clause-writes g c = λ plain ok.
-    let put = c.write-str-in-EarlyCells in
+    let put = c.write_str-in-EarlyCells in
     subst⁻¹ (λ e. HasWritten {W = g.row.W.Denot} g.W.Write.write_str_gives c.args.f.now (message e) put.new.self) c.in-EarlyCells.is (put.ensures.writes plain ok)
 
 pub returns-in-EmptyPeriod-clause-writes : goal.returns-in-EmptyPeriod-clause-writes
 returns-in-EmptyPeriod-clause-writes g c = λ plain ok.
-    let put = c.write-str-in-EmptyPeriod in
+    let put = c.write_str-in-EmptyPeriod in
     subst⁻¹ (λ e. HasWritten {W = g.row.W.Denot} g.W.Write.write_str_gives c.args.f.now (message e) put.new.self) c.in-EmptyPeriod.is (put.ensures.writes plain ok)

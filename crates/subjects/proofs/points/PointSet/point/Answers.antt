@@ -2,7 +2,7 @@
 use Rattle.subjects.proofs.Values.{point_within}
 use Rattle.subjects.proofs.points.PointSet.point.Goals as goal
 
-pub slice-bounds-result-end : goal.slice-bounds-result-end
-slice-bounds-result-end c =
+pub slice_bounds-result-end : goal.slice_bounds-result-end
+slice_bounds-result-end c =
     let s = c.args.self.now in
     point_within s.variables s.points c.args.number s.coordinates.now s.full c.requires

@@ -12,8 +12,8 @@ returns g c =
     let p = poly c.args.terms.now in
     let k = c.args.point in
     record {
-      value = λ h. c.polynomial-image.ensures ∙ image_value s.variables s.points s.coordinates.now A p k h;
-      past = λ h. c.polynomial-image.ensures ∙ image_past s.variables s.points s.coordinates.now A L p k h;
+      value = λ h. c.polynomial_image.ensures ∙ image_value s.variables s.points s.coordinates.now A p k h;
+      past = λ h. c.polynomial_image.ensures ∙ image_past s.variables s.points s.coordinates.now A L p k h;
       evaluation = values_evaluate s.variables s.points s.coordinates.now s.few;
       vanishing = annihilators_vanish s.variables s.points s.coordinates.now;
     }

@@ -6,4 +6,4 @@ use Rattle.worksheet.proofs.Selecting.{finished_decided}
 use Rattle.worksheet.proofs.worksheet.Worksheet.is_done.Goals as goal
 
 pub returns : goal.returns
-returns c = finished_decided c.args.self.now.variables lexicographic (judged (sheet c.args.self.now)) c.next-monomial.result c.is-none.result c.is-none.ensures c.next-monomial.ensures
+returns c = finished_decided c.args.self.now.variables lexicographic (judged (sheet c.args.self.now)) c.next_monomial.result c.is_none.result c.is_none.ensures c.next_monomial.ensures

@@ -11,13 +11,13 @@ use Rattle.worksheet.specs.Views.{sheet}
 use Rattle.worksheet.proofs.Writing.{keeps_fit, put_path, line_free, written_sound}
 use Rattle.worksheet.proofs.worksheet.Worksheet.judge.Goals as goal
 
-pub invariant-of-self : goal.invariant-of-self
-invariant-of-self g c =
+pub invariant_of-self : goal.invariant_of-self
+invariant_of-self g c =
     let w = c.args.self.now in
     let s = sheet w in
     let S = g.S.Subject.meaning c.args.subject.now in
     let A = g.F.Field.arithmetic c.args.field.now in
-    let made = c.line-of-line in
+    let made = c.line_of-line in
     let l = made.result in
     let keeps = keeps_fit S A s c.requires.fits c.judged.result.now c.judged.ensures l made.ensures.echelon in
     let waited : Waits s.variables (judged s) (mono l.monomial.exponents) =
@@ -33,7 +33,7 @@ returns g c =
     let s = sheet w in
     let S = g.S.Subject.meaning c.args.subject.now in
     let A = g.F.Field.arithmetic c.args.field.now in
-    let made = c.line-of-line in
+    let made = c.line_of-line in
     let l = made.result in
     let keeps = keeps_fit S A s c.requires.fits c.judged.result.now c.judged.ensures l made.ensures.echelon in
     record {

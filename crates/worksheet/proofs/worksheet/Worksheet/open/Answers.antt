@@ -3,8 +3,8 @@ use Rattle.std.proofs.Common.{arith}
 use Rattle.worksheet.proofs.Soundness.{none_sound}
 use Rattle.worksheet.proofs.worksheet.Worksheet.open.Goals as goal
 
-pub invariant-of-result : goal.invariant-of-result
-invariant-of-result g c =
+pub invariant_of-result : goal.invariant_of-result
+invariant_of-result g c =
     let L = g.S.Subject.laws c.args.subject.now in (
       omega arith,
       (

@@ -8,15 +8,15 @@ use Rattle.worksheet.specs.Views.{sheet}
 use Rattle.worksheet.proofs.Remained.{remained}
 use Rattle.worksheet.proofs.worksheet.Worksheet.remainder.Goals as goal
 
-pub returns-in-Some-first-exponent-outside : goal.returns-in-Some-first-exponent-outside
-returns-in-Some-first-exponent-outside g c =
+pub returns-in-Some-first_exponent_outside : goal.returns-in-Some-first_exponent_outside
+returns-in-Some-first_exponent_outside g c =
     let fits = c.if-not-fits.ensures.0 refl in
-    let i = c.in-Some-first-exponent-outside.term in (
+    let i = c.in-Some-first_exponent_outside.term in (
       (
-        c.in-default.ensures,
+        c.in_default.ensures,
         fits,
-        c.if-not-is-done.ensures.0 refl,
-        subst⁻¹ (λ m. FirstAt (ExponentFault m c.args.terms.now) i) fits.subject.variables c.in-Some-first-exponent-outside.ensures,
+        c.if-not-is_done.ensures.0 refl,
+        subst⁻¹ (λ m. FirstAt (ExponentFault m c.args.terms.now) i) fits.subject.variables c.in-Some-first_exponent_outside.ensures,
       ),
       refl,
     )
@@ -25,11 +25,11 @@ pub returns-then-codes-stairs : goal.returns-then-codes-stairs
 returns-then-codes-stairs g c =
     let fits = c.if-not-fits.ensures.0 refl in
     let terms = c.args.terms.now in
-    let small = subst⁻¹ (λ m. NoneAt (ExponentFault m terms)) fits.subject.variables c.in-default-first-exponent-outside.ensures in (
+    let small = subst⁻¹ (λ m. NoneAt (ExponentFault m terms)) fits.subject.variables c.in_default-first_exponent_outside.ensures in (
       (
-        record { codes = c.in-default.ensures; exponents = small },
+        record { codes = c.in_default.ensures; exponents = small },
         fits,
-        c.if-not-is-done.ensures.0 refl,
+        c.if-not-is_done.ensures.0 refl,
         λ e. c.if-codes-stairs.true (e ∙ sym c.stairs.ensures.is),
       ),
       refl,
@@ -43,13 +43,13 @@ returns g c =
     let terms = c.args.terms.now in
     let after = c.remainder_codes.new.codes in
     let fits = c.if-not-fits.ensures.0 refl in
-    let small = subst⁻¹ (λ m. NoneAt (ExponentFault m terms)) fits.subject.variables c.in-default-first-exponent-outside.ensures in
+    let small = subst⁻¹ (λ m. NoneAt (ExponentFault m terms)) fits.subject.variables c.in_default-first_exponent_outside.ensures in
     let many : length c.args.codes.now ≡ stairs_in s = omega (arith, c.stairs.ensures.is) in
     let same : length after ≡ length c.args.codes.now = c.remainder_codes.auto.codes in
     let admitted : RemainderAdmitted S A terms s (length c.args.codes.now) = record {
-      terms = record { codes = c.in-default.ensures; exponents = small };
+      terms = record { codes = c.in_default.ensures; exponents = small };
       fits = fits;
-      done = c.if-not-is-done.ensures.0 refl;
+      done = c.if-not-is_done.ensures.0 refl;
       one_each = many;
     } in (
       admitted,

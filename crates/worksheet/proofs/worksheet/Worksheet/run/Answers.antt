@@ -20,5 +20,5 @@ loop-step-preserved g c =
     let U = set_up (g.S.Subject.meaning c.args.subject.now) (g.F.Field.arithmetic c.args.field.now) (g.O.MonomialOrder.order c.args.order.now) in
     let s = sheet c.loop-step.self in
     let after = sheet c.step.new.self in
-    let h = subst (λ r. Steps U s r after) (c.in-Ok.is ∙ ap Ok c.in-default-step.is) c.step.ensures in
+    let h = subst (λ r. Steps U s r after) (c.in-Ok.is ∙ ap Ok c.in_default-step.is) c.step.ensures in
     judged_more U c.args.self.now.used (sheet c.args.self.now) s after c.loop-step.invariant h.1
