@@ -1,4 +1,3 @@
-pub mod Refusals
 pub mod Widths
 pub mod Walk
 pub mod Values

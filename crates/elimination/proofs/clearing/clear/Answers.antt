@@ -30,7 +30,7 @@ loop-line-preserved g c =
       | in-Stair w ↦ elim w.if-place-lt-PLACES.branch [
         | then-place-lt-PLACES v ↦ subst₃ To (sym w.place-is) (sym (w.image-is ∙ v.image-is)) (sym (w.combination-is ∙ v.combination-is))
             (stair_turn A L n lines i c.loop-line.place c.loop-line-test.true _ _ _ c.loop-line.invariant w.in-Stair.is
-            (omega (arith, v.if-place-lt-PLACES.true)) v.eliminate.new.image v.eliminate.new.combination v.eliminate.ensures.0 v.eliminate.array_long v.eliminate.array-long2 v.eliminate.ensures.1)
+            (omega (arith, v.if-place-lt-PLACES.true)) v.eliminate.new.image v.eliminate.new.combination v.eliminate.ensures.eliminated.0 v.eliminate.array_long v.eliminate.array_long2 v.eliminate.ensures.eliminated.1)
         | else-place-lt-PLACES v ↦ subst₃ To (sym w.place-is) (sym (w.image-is ∙ v.image-is)) (sym (w.combination-is ∙ v.combination-is))
             (skipped_turn A L n lines i c.loop-line.place c.loop-line-test.true _ _ _ c.loop-line.invariant w.in-Stair.is (omega arith) (omega (arith, v.if-place-lt-PLACES.false)))
       ]

@@ -12,7 +12,7 @@ returns-in-Err g c =
     let s = sheet c.args.sheet.now in
     let taken : c.loop-number.number < length c.args.asked.now / 4 = c.loop-number-test.true in
     record {
-      whole = inr (refl, inr (c.loop-number.number, c.in-Err.-fault, taken, subst (λ e. Refills A c.args.codes.now (mono e) s (Err c.in-Err.-fault)) c.monomial_at.ensures c.in-Err.ensures));
+      whole = inr (refl, inr (c.loop-number.number, c.in-Err._fault, taken, subst (λ e. Refills A c.args.codes.now (mono e) s (Err c.in-Err._fault)) c.monomial_at.ensures c.in-Err.ensures));
       each = λ i h. absurd (omega arith);
       rest = λ k h. c.loop-number.invariant.1 k (omega (arith, h, taken));
     }

@@ -14,7 +14,7 @@ returns-in-Err g c =
     let few : c.places-stairs.result ≡ min (stairs_in s) 64 = c.places-stairs.ensures in
     let taken : n < length c.args.asked.now / 320 = c.loop-number-test.true in
     let ts = c.terms_from-terms.result in
-    let fault = c.in-Err.-fault in
+    let fault = c.in-Err._fault in
     let e = c.in-Err.ensures.is in
     record {
       whole = inr (

@@ -9,7 +9,7 @@ use Rattle.linked.proofs.Working.{ran_to}
 use Rattle.linked.proofs.dispatch.work_out.Goals as goal
 
 pub returns-in-Err : goal.returns-in-Err
-returns-in-Err g c = refused c.in-Err.-fault c.in-Err.ensures.answer (refl, refl)
+returns-in-Err g c = refused c.in-Err._fault c.in-Err.ensures.answer (refl, refl)
 
 pub returns-in-Finished : goal.returns-in-Finished
 returns-in-Finished g c =
