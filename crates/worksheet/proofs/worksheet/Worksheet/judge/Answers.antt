@@ -22,10 +22,14 @@ invariant_of-self g c =
     let keeps = keeps_fit S A s c.requires.fits c.judged.result.now c.judged.ensures l made.ensures.echelon in
     let waited : Waits s.variables (judged s) (mono l.monomial.exponents) =
     subst⁻¹ (λ (a : Monomial). Waits s.variables (judged s) (mono a.exponents)) made.ensures.own c.requires.waits in
-    let lines = c.write.new.self.lines.now in (
-      subst⁻¹ (λ x. s.used + 1 ≤ length x) c.write.ensures (omega (arith, length-set s.lines s.used l, c.requires.unused)),
-      (w.some, (w.few, (w.narrow, (written_sound s w.sound l keeps c.requires.unused waited lines c.write.ensures, tt)))),
-    )
+    let lines = c.write.new.self.lines.now in
+    record {
+      room = subst⁻¹ (λ x. s.used + 1 ≤ length x) c.write.ensures (omega (arith, length-set s.lines s.used l, c.requires.unused));
+      some = w.some;
+      few = w.few;
+      narrow = w.narrow;
+      sound = written_sound s w.sound l keeps c.requires.unused waited lines c.write.ensures;
+    }
 
 pub returns : goal.returns
 returns g c =
