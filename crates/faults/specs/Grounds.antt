@@ -1,6 +1,4 @@
 -- The number, the place and the layer of each refusal. Every contract that refuses reads them here.
-use Rattle.std.specs.Prelude.{ℕ}
-use Rattle.faults.specs.declared.refusal.Layer.{Layer}
 use Rattle.faults.specs.declared.refusal.Layer.TheVariants as layers
 use Rattle.faults.specs.declared.refusal.Refusal.{Refusal}
 use Rattle.faults.specs.declared.arithmetic.ArithmeticFault.{ArithmeticFault}

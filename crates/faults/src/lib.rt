@@ -1,4 +1,6 @@
 // Refusals: one enum for each layer, and the ground, the place and the layer that each case answers.
+#![tactic(auto)]
+
 mod arithmetic;
 mod file;
 mod refusal;

@@ -1,4 +1,6 @@
 // Fields of codes: the trait, the residues by a prime modulus, the binary fields, and powers in any field.
+#![tactic(auto)]
+
 mod binary;
 mod codes;
 mod exponentiation;

@@ -1,8 +1,8 @@
 -- The lexicographic order is that of the leftmost exponent in which two monomials differ.
-use Rattle.std.proofs.Common.{◌≡◌, ℕ, zero, suc, ◌<◌, Decides, ap, inl, inr, arith}
+use Rattle.std.proofs.Common.{◌≡◌, ℕ, zero, suc, Decides, ap, inl, inr, arith}
 use Rattle.std.proofs.lemmas.Bool.Decides.{nat_tests}
 use Rattle.std.specs.Ordering.{is_lt}
-use Rattle.monomials.specs.Monomials.{Mono, exponent}
+use Rattle.monomials.specs.Monomials.{Mono}
 use Rattle.monomials.specs.Orders.{Order, Before}
 use Rattle.monomials.specs.Rules.{by, tied, lexicographic, LeftmostPositive}
 use Rattle.monomials.proofs.Orders.{before_from_test}

@@ -1,4 +1,6 @@
 // The 12-byte records of a file: their layout, and what a record of each kind says.
+#![tactic(auto)]
+
 mod entry;
 mod listed;
 mod period;

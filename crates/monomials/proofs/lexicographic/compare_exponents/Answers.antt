@@ -1,5 +1,5 @@
 -- Each comparison ranks two exponents, and the first that tells them apart is answered.
-use Rattle.std.proofs.Common.{◌≡◌, ℕ, refl, sym, ap, ap₂, ◌∙◌, arith, get_or, nat_cmp}
+use Rattle.std.proofs.Common.{◌≡◌, ℕ, refl, ◌∙◌, arith, get_or, nat_cmp}
 use Rattle.std.proofs.lemmas.Bool.Decides.{nat_tests}
 use Rattle.std.specs.declared.cmp.Ordering.{Ordering}
 use Rattle.std.specs.declared.cmp.Ordering.TheVariants.{Less, Equal, Greater}

@@ -16,5 +16,5 @@ loop-word-preserved c =
 
 pub returns : goal.returns
 returns c =
-    subst (λ x. Reads (split_whitespace_rest x) (vec_items c.loop-word.numbers)) c.into_iter-word-iterator.ensures.into_iter-gives
+    subst (λ x. Reads (split_whitespace_rest x) (vec_items c.loop-word.numbers)) c.into_iter-word-iterator.ensures.into_iter_gives
     (split_whitespace_rest c.loop-word.word-iterator, c.loop-word.invariant, c.in-None.ensures.steps.1)

@@ -18,12 +18,12 @@ returns-in_default-word c = (
       c.in_default-word.not-stair c.in_default-word.not-rel,
 )
 
-pub returns-in_err-u : goal.returns-in_err-u
-returns-in_err-u c =
+pub returns-in_err-u-in-stair : goal.returns-in_err-u-in-stair
+returns-in_err-u-in-stair c =
     let word = c.in-Some.word in
     let rest = c.in-Some.rest in
     let p = err_from_is_err_and c.from_residual.result c.from_residual.ensures.1 in
-    let refused = c.in_err-u.ensures in
+    let refused = c.in_err-u-in-stair.ensures in
     rw (p.1, p.2) (
       refused.0,
       λ l q.
@@ -32,12 +32,12 @@ returns-in_err-u c =
           (line_cut l.verdict c.args.line.now l.u l.v q (Some (word, rest)) c.in-Some.ensures.cases) c.in-stair.is),
     )
 
-pub returns-in_err-u-2 : goal.returns-in_err-u-2
-returns-in_err-u-2 c =
+pub returns-in_err-u-in-rel : goal.returns-in_err-u-in-rel
+returns-in_err-u-in-rel c =
     let word = c.in-Some.word in
     let rest = c.in-Some.rest in
-    let p = err_from_is_err_and c.from_residual-in_err-u-2.result c.from_residual-in_err-u-2.ensures.1 in
-    let refused = c.in_err-u-2.ensures in
+    let p = err_from_is_err_and c.from_residual-in_err-u-in-rel.result c.from_residual-in_err-u-in-rel.ensures.1 in
+    let refused = c.in_err-u-in-rel.ensures in
     rw (p.1, p.2) (
       refused.0,
       λ l q.
@@ -45,15 +45,3 @@ returns-in_err-u-2 c =
           (relation_only l.verdict word.now rest.now l.u l.v
           (line_cut l.verdict c.args.line.now l.u l.v q (Some (word, rest)) c.in-Some.ensures.cases) c.in-rel.is),
     )
-
-pub returns-in_ok-u : goal.returns-in_ok-u
-returns-in_ok-u c =
-    let rest = c.in-Some.rest in
-    let cut = split_parts 32 c.args.line.now (Some (c.in-Some.word, rest)) c.in-Some.ensures.cases (lit< tt) in
-    (rest.now, cut.0 ∙ ap (λ word. word ++ (32 ∷ rest.now)) {x = c.in-Some.word.now} c.in-stair.is, c.in_ok-u.ensures)
-
-pub returns-in_ok-u-2 : goal.returns-in_ok-u-2
-returns-in_ok-u-2 c =
-    let rest = c.in-Some.rest in
-    let cut = split_parts 32 c.args.line.now (Some (c.in-Some.word, rest)) c.in-Some.ensures.cases (lit< tt) in
-    (rest.now, cut.0 ∙ ap (λ word. word ++ (32 ∷ rest.now)) {x = c.in-Some.word.now} c.in-rel.is, c.in_ok-u-2.ensures)

@@ -3,6 +3,7 @@ use mathlib.Core.Path.{subst⁻¹}
 use borrow.Author.Tests.{clash}
 use Rattle.std.proofs.lemmas.Str.Pattern.{split_after, split_parts}
 use Rattle.show_staircase.specs.Readings.{Number}
+use Rattle.show_staircase.proofs.Texts.{text_decides}
 use Rattle.show_staircase.proofs.words.is_counting.Goals as goal
 
 pub returns-then-eq : goal.returns-then-eq
@@ -10,10 +11,11 @@ returns-then-eq c = λ lacks.
     let line = c.args.line.now in
     let number = c.in-Some.number in
     let found = Some (c.in-Some.first, number) in
-    let cases = c.in-Some.ensures.cases in (
+    let cases = c.in-Some.ensures.cases in
+    let same_text = text_decides c.in-Some.first.now c.args.word.now _ c.eq.ensures in (
       λ counted. (
         number.now,
-        (split_parts 32 line found cases (lit< tt)).0 ∙ ap (λ first. first ++ (32 ∷ number.now)) (c.eq.ensures.0 c.if-eq.true),
+        (split_parts 32 line found cases (lit< tt)).0 ∙ ap (λ first. first ++ (32 ∷ number.now)) (same_text.0 c.if-eq.true),
         c.is_number.ensures.0 counted,
       ),
       λ counting.
@@ -25,7 +27,7 @@ pub returns-else-eq : goal.returns-else-eq
 returns-else-eq c = λ lacks. (
   λ counted. absurd (clash (sym c.if-eq.false ∙ counted)),
   λ counting.
-      c.eq.ensures.1
+      (text_decides c.in-Some.first.now c.args.word.now _ c.eq.ensures).1
       (split_after 32 c.args.line.now c.args.word.now counting.0 (Some (c.in-Some.first, c.in-Some.number))
       c.in-Some.ensures.cases (lit< tt) counting.1 lacks).0,
 )

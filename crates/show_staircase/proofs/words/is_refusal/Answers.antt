@@ -3,6 +3,7 @@ use mathlib.Core.Path.{subst⁻¹}
 use borrow.Author.Tests.{clash}
 use Rattle.std.proofs.lemmas.Str.Pattern.{split_after, split_parts}
 use Rattle.show_staircase.specs.Readings.{Lacks, GroundAt}
+use Rattle.show_staircase.proofs.Texts.{text_decides}
 use Rattle.show_staircase.proofs.words.is_refusal.Goals as goal
 
 -- `refused` has no space
@@ -17,7 +18,7 @@ returns-then-eq c =
       λ placed. (
         rest.now,
         (split_parts 32 line (Some (c.in-Some.word, rest)) cases (lit< tt)).0 ∙
-            ap (λ word. word ++ (32 ∷ rest.now)) (c.eq.ensures.0 c.if-eq.true),
+            ap (λ word. word ++ (32 ∷ rest.now)) ((text_decides c.in-Some.word.now (codes "refused") _ c.eq.ensures).0 c.if-eq.true),
         c.is_ground_at.ensures.0 placed,
       ),
       λ (after, e, placed).
@@ -29,7 +30,7 @@ pub returns-else-eq : goal.returns-else-eq
 returns-else-eq c = (
   λ placed. absurd (clash (sym c.if-eq.false ∙ placed)),
   λ (after, e, placed).
-      c.eq.ensures.1
+      (text_decides c.in-Some.word.now (codes "refused") _ c.eq.ensures).1
       (split_after 32 c.args.line.now (codes "refused") after (Some (c.in-Some.word, c.in-Some.rest)) c.in-Some.ensures.cases (lit< tt) e refused_lacks).0,
 )
 

@@ -1,4 +1,4 @@
-use Rattle.std.proofs.Common.{◌≡◌, ℕ, ◌<◌, ◌≤◌, get_or}
+use Rattle.std.proofs.Common.{◌≡◌, ℕ, ◌<◌, ◌≤◌}
 use Rattle.monomials.specs.Monomials.{mono, exponent}
 use Rattle.monomials.proofs.monomial.Monomial.is_within.Given as goal
 

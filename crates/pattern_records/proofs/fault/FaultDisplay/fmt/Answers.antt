@@ -5,7 +5,7 @@ use Rattle.pattern_records.proofs.fault.FaultDisplay.fmt.Goals as goal
 
 pub returns-in-Unknown-clause-writes : goal.returns-in-Unknown-clause-writes
 returns-in-Unknown-clause-writes g c = λ plain ok.
-    subst⁻¹ (λ e. HasWritten {W = g.row.W.Denot} g.W.Write.write_str_gives c.args.f.now (message e) c.write.new.self) c.in-Unknown.is (c.write.ensures.shows plain ok)
+    subst⁻¹ (λ e. HasWritten {W = g.row.W.Denot} g.W.Write.write_str_gives c.args.f.now (message e) c.write.new.self) c.in-Unknown.is (c.write.ensures.writes plain ok)
 
 pub returns-in-EarlyCells-clause-writes : goal.returns-in-EarlyCells-clause-writes
 returns-in-EarlyCells-clause-writes g c = λ plain ok.
