@@ -1,3 +1,5 @@
+#![tactic(auto)]
+
 // Worked examples of periodic arrays and of checks against them. The expected values were computed by another program, or by hand.
 #[cfg(test)]
 mod checks;

@@ -1,5 +1,5 @@
 -- What the program answers of a claim: the field is refused, the subject is refused, or the polynomial is checked.
-use Rattle.std.specs.Prelude.{ℕ, List, Ok, Err, Result}
+use Rattle.std.specs.Prelude.{ℕ, List, Err, Result}
 use Rattle.faults.specs.declared.arithmetic.ArithmeticFault.TheVariants.{Unlisted}
 use Rattle.faults.specs.declared.subject.SubjectFault.{SubjectFault}
 use Rattle.faults.specs.declared.subject.SubjectFault.TheVariants.{Arithmetic}

@@ -1,4 +1,6 @@
 // Checks claimed relations against patterns and points, and prints what is found.
+#![tactic(auto)]
+
 ghost use Rattle.std.specs.Prelude.{◌≡◌, [], ◌∷◌};
 
 mod examination;

@@ -1,4 +1,6 @@
 // Elimination: one image against the stairs of lines.
+#![tactic(auto)]
+
 mod clearing;
 mod images;
 mod judging;

@@ -1,6 +1,5 @@
 -- Lines, monomials and polynomials as numbers.
 use Rattle.std.specs.Prelude.{◌≡◌, ℕ, ◌+◌, ◌*◌, ◌<◌, ◌≤◌, cond, List, [], ◌∷◌, length, slice_index, slice_index_or}
-use Rattle.monomials.specs.declared.monomial.Monomial.{Monomial}
 use Rattle.polynomials.specs.declared.term.Term.{Term}
 use Rattle.rows.specs.declared.line.Line.{Line}
 use Rattle.rows.specs.Lines.{line, is_stair}

@@ -1,4 +1,6 @@
 // Listings: the text of a worksheet's lines, and the line of a refusal.
+#![tactic(auto)]
+
 mod lines;
 mod numbers;
 mod refusals;

@@ -1,3 +1,5 @@
+#![tactic(auto)]
+
 // Vectors of the monomial orders and of the operations on monomials, worked out by hand.
 #[cfg(test)]
 mod operations;

@@ -1,4 +1,6 @@
 // Prints the monomials of degree up to 3 in two variables, ascending under each of four orders.
+#![tactic(auto)]
+
 mod ascending;
 mod listed;
 mod text;

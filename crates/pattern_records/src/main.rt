@@ -1,4 +1,6 @@
 // Turns a readable text on standard input into the records of a pattern on standard output.
+#![tactic(auto)]
+
 mod appending;
 mod cells;
 mod coordinates;

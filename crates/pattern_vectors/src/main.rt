@@ -1,4 +1,6 @@
 // Holds the printout of each file of records to the text beside it.
+#![tactic(auto)]
+
 ghost use Rattle.std.specs.Prelude.{◌≡◌, ◌+◌, ◌-◌, ◌^◌, ◌<◌, ◌≤◌, length, if◌then◌else◌, Ok, Err, Decides};
 
 use printouts::printout;

@@ -1,4 +1,6 @@
 // Patterns as files of records: what a file means, or why it is refused.
+#![tactic(auto)]
+
 mod cells;
 mod codes;
 mod decoding;

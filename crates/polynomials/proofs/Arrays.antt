@@ -1,14 +1,14 @@
 -- A periodic array is a subject, and its annihilators are the polynomials valid for the infinite array.
-use Rattle.std.proofs.Common.{◌≡◌, ℕ, ◌%◌, ◌<◌, ◌≤◌, cond, ltb, ◌↔◌, List, length, get_or, sym, ap, ◌∙◌, mod-lt, mod-eq_of_lt, arith}
+use Rattle.std.proofs.Common.{◌≡◌, ℕ, ◌%◌, ◌<◌, ◌≤◌, ltb, List, length, get_or, sym, ap, ◌∙◌, mod-lt, mod-eq_of_lt, arith}
 use mathlib.Core.Path.{fun_ext}
 use native.Mathlib.Nat.{zero-mod, zero-div}
 use Rattle.std.proofs.lemmas.Bool.{lt-ltb, le-ltb, cond-true, cond-false, cond_both}
 use Rattle.fields.specs.Arithmetic.{Arithmetic, RingLaws}
 use Rattle.fields.proofs.Rings as rings
-use Rattle.monomials.specs.Monomials.{Mono, one, times, variable, Within}
+use Rattle.monomials.specs.Monomials.{Mono, one, times, variable}
 use Rattle.monomials.specs.MonomialsLemmas.{mono_path, times_comm, times_assoc, one_times}
 use Rattle.polynomials.specs.Arrays.{period, cells_of, position_of, cell_at, wrapped, infinite_array, array_meaning, Valid, AnnihilatorsAreValid}
-use Rattle.polynomials.specs.Polynomials.{Poly, applied}
+use Rattle.polynomials.specs.Polynomials.{applied}
 use Rattle.polynomials.specs.Subjects.{SubjectLaws, Annihilates}
 use Rattle.polynomials.proofs.Subjects.{closed_by_steps}
 use Rattle.polynomials.proofs.Wrapping.{cell_at_position, wrapped_times, wrapped_inside, cell_within, position_below}

@@ -4,7 +4,7 @@ use Rattle.std.proofs.lemmas.List.{drop_more, drop_all}
 use Rattle.std.proofs.lemmas.Bool.{cases_lt}
 use Rattle.fields.specs.Arithmetic.{Arithmetic, RingLaws}
 use Rattle.fields.proofs.Rings as rings
-use Rattle.monomials.specs.Monomials.{Mono, mono, exponent}
+use Rattle.monomials.specs.Monomials.{Mono, mono}
 use Rattle.monomials.specs.MonomialsLemmas.{exponent_mono, within_four}
 use Rattle.polynomials.specs.declared.term.Term.{Term}
 use Rattle.polynomials.specs.Polynomials.{applied}

@@ -1,9 +1,9 @@
 -- Cells of a period: positions and coordinates are inverse, and coordinates that differ by whole periods fall on one cell.
-use Rattle.std.proofs.Common.{◌≡◌, ℕ, zero, suc, ◌+◌, ◌*◌, ◌/◌, ◌%◌, ◌<◌, ◌≤◌, List, [], ◌∷◌, length, get_or, sym, refl, ap, ◌∙◌, subst, mod-lt, mod-eq_of_lt, mul-zero, zero-mul, mul-one, arith}
+use Rattle.std.proofs.Common.{◌≡◌, ℕ, zero, suc, ◌+◌, ◌*◌, ◌/◌, ◌%◌, ◌<◌, ◌≤◌, List, [], ◌∷◌, length, sym, refl, ap, ◌∙◌, subst, mod-lt, mod-eq_of_lt, mul-zero, zero-mul, mul-one, arith}
 use native.Mathlib.Nat.{mod-add-mod, mod-one}
 use lib.Arith.{digits_lt, digits_div, digits_mod}
 use Rattle.std.proofs.lemmas.List.{get_or_past}
-use Rattle.monomials.specs.Monomials.{Mono, times, Within, exponent}
+use Rattle.monomials.specs.Monomials.{Mono, times, Within}
 use Rattle.monomials.specs.MonomialsLemmas.{mono_path}
 use Rattle.polynomials.specs.Arrays.{period, cells_of, position_of, cell_at, wrapped, Inside}
 

@@ -1,5 +1,5 @@
 -- A periodic array: its periods, and one code for each cell of the period.
-use Rattle.std.specs.Prelude.{◌≡◌, ℕ, ◌+◌, ◌*◌, ◌/◌, ◌%◌, ◌<◌, ◌≤◌, cond, ◌↔◌, List, [], ◌∷◌, length, nat_lt, slice_index, slice_index_or}
+use Rattle.std.specs.Prelude.{◌≡◌, ℕ, ◌+◌, ◌*◌, ◌/◌, ◌%◌, ◌<◌, cond, ◌↔◌, List, [], ◌∷◌, length, nat_lt, slice_index, slice_index_or}
 use Rattle.fields.specs.Arithmetic.{Arithmetic, RingLaws}
 use Rattle.monomials.specs.Monomials.{Mono, times, Within}
 use Rattle.polynomials.specs.Polynomials.{Poly, applied}

@@ -1,4 +1,6 @@
 // Terms of polynomials; the theory of polynomials, of what they annihilate, of periodic arrays and of point sets stands in specs and proofs.
+#![tactic(auto)]
+
 mod term;
 mod term_faults;
 

@@ -1,5 +1,5 @@
 -- The array of a file that is taken is admitted.
-use Rattle.std.proofs.Common.{◌≡◌, ℕ, List}
+use Rattle.std.proofs.Common.{ℕ, List}
 use mathlib.Core.Path.{subst⁻¹}
 use Rattle.subjects.specs.ArrayGrounds.{PeriodsAdmitted, ArrayAdmitted}
 use Rattle.patterns.specs.Reads.{Pattern, FileMeans}

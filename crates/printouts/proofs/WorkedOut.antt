@@ -1,5 +1,5 @@
 -- A sheet that was opened under an array and run: by the long-run statement it has the row of the array, or there are too few lines.
-use Rattle.std.proofs.Common.{◌≡◌, ℕ, ◌*◌, ◌/◌, ◌<◌, ◌≤◌, List, [], ◌∷◌, length, Ok, sym, refl, ap, ◌∙◌, subst, subst₂, zero-add, arith}
+use Rattle.std.proofs.Common.{◌≡◌, ℕ, ◌*◌, ◌/◌, ◌≤◌, List, [], ◌∷◌, length, Ok, sym, refl, ap, ◌∙◌, subst, subst₂, zero-add, arith}
 use mathlib.Core.Path.{subst⁻¹}
 use Rattle.std.proofs.lemmas.List.{length-take-le}
 use Rattle.faults.specs.Grounds.{of_worksheet}
@@ -11,7 +11,6 @@ use Rattle.polynomials.proofs.Arrays.{array_laws}
 use Rattle.subjects.specs.declared.periodic.PeriodicArray.{PeriodicArray}
 use Rattle.rows.specs.declared.line.Line.{Line}
 use Rattle.rows.specs.Ideals.{SetUp, Lawful, array_set_up}
-use Rattle.rows.specs.Lines.{stairs_of}
 use Rattle.rows.specs.Rows.{Row}
 use Rattle.worksheet.specs.declared.answers.Ran.{Ran}
 use Rattle.worksheet.specs.declared.answers.Ending.{Ending}

@@ -1,4 +1,6 @@
 // Refill: the code of the continued array at a monomial, from the lines alone.
+#![tactic(auto)]
+
 mod entry;
 mod factor;
 mod fill;

@@ -1,4 +1,6 @@
 // Reads a file of records on standard input, and prints the listing of the row that it means, or the line of its refusal.
+#![tactic(auto)]
+
 ghost use Rattle.std.specs.Prelude.{ℕ, ◌≤◌, List, length, IfOk};
 ghost use Rattle.patterns.specs.Files.{Whole};
 

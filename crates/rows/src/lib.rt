@@ -1,4 +1,6 @@
 // Rows: the staircase of a subject and its reduced Groebner basis, line by line.
+#![tactic(auto)]
+
 mod line;
 mod lookup;
 mod tally;

@@ -1,5 +1,5 @@
 -- Numbers hold no space and no colon, so a cut at the first of them is where a text is put together.
-use Rattle.std.proofs.Common.{◌≡◌, ℕ, zero, suc, ◌<◌, ◌≤◌, Bool, true, false, cond, eqb, List, [], ◌∷◌, ◌++◌, length, get_or, drop, Some, None, codes, Option, sym, refl, ap, ◌∙◌, append_assoc, arith, lit<, Bor, rules, eqb-true, MatchOption}
+use Rattle.std.proofs.Common.{◌≡◌, ℕ, zero, suc, ◌≤◌, Bool, true, false, cond, eqb, List, [], ◌∷◌, ◌++◌, get_or, drop, Some, None, codes, Option, sym, refl, ap, ◌∙◌, append_assoc, arith, lit<, Bor, rules, eqb-true, MatchOption}
 use mathlib.Core.Path.{subst⁻¹}
 use Rattle.std.specs.Str.Parse.{IsNumeral, without_leading_plus}
 use Rattle.std.proofs.lemmas.Str.Parse.{digit_at}

@@ -1,5 +1,5 @@
 -- The drawing of a listing: rows of marks from the top, and the exponents beside and below them.
-use Rattle.std.specs.Prelude.{ℕ, zero, suc, ◌+◌, ◌-◌, ◌/◌, ◌%◌, max, cond, List, [], ◌∷◌, ◌++◌, codes, decimal, fold, nat_lt}
+use Rattle.std.specs.Prelude.{ℕ, zero, suc, ◌+◌, ◌-◌, ◌/◌, ◌%◌, max, cond, List, [], ◌++◌, codes, decimal, fold, nat_lt}
 use Rattle.show_staircase.specs.declared.marks.Listed.{Listed}
 use Rattle.show_staircase.specs.declared.marks.Mark.{Mark}
 use Rattle.show_staircase.specs.declared.marks.Mark.TheVariants as marks

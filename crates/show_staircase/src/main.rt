@@ -1,4 +1,6 @@
 // Draws the staircase of a listing in two variables, or passes the line of a refusal through.
+#![tactic(auto)]
+
 mod drawings;
 mod entries;
 mod grounds;

@@ -1,8 +1,8 @@
 -- The product of the periods so far.
-use Rattle.std.proofs.Common.{◌≡◌, ℕ, zero, suc, ◌+◌, ◌*◌, ◌<◌, ◌≤◌, ◌⊎◌, List, [], ◌∷◌, length, get_or, take, sym, refl, ap, ◌∙◌, inl, inr, mul_assoc, mul_comm, mul-le-mul_left, mul-zero, mul-one, add-one, arith, take_all}
+use Rattle.std.proofs.Common.{◌≡◌, ℕ, zero, suc, ◌+◌, ◌*◌, ◌<◌, ◌≤◌, List, [], ◌∷◌, length, get_or, take, sym, refl, ap, ◌∙◌, inl, inr, mul_assoc, mul_comm, mul-le-mul_left, mul-zero, mul-one, add-one, arith, take_all}
 use Rattle.std.proofs.lemmas.List.{get_or_default}
 use Rattle.std.proofs.lemmas.Bool.{cases_lt}
-use Rattle.polynomials.specs.Arrays.{period, cells_of}
+use Rattle.polynomials.specs.Arrays.{cells_of}
 use Rattle.subjects.specs.ArrayGrounds.{PeriodFault}
 
 -- one period more

@@ -1,4 +1,6 @@
 // Subjects: what polynomials are checked against.
+#![tactic(auto)]
+
 mod checking;
 mod periodic;
 mod points;

@@ -1,4 +1,6 @@
 // Works out the relations of a pattern on a worksheet, and prints what the worksheet answers.
+#![tactic(auto)]
+
 ghost use Rattle.std.specs.Prelude.{◌≡◌, [], ◌∷◌};
 
 use faults::{Fault, WorksheetFault};

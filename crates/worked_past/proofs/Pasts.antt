@@ -1,5 +1,5 @@
 -- Calls under the set-up, one after another, make the past; three lines are enough to finish.
-use Rattle.std.proofs.Common.{◌≡◌, ℕ, ◌+◌, ◌≤◌, Bool, List, [], ◌∷◌, length, Ok, Err, Result, sym, refl, ap, ◌∙◌, subst, arith}
+use Rattle.std.proofs.Common.{◌≡◌, ℕ, ◌+◌, ◌≤◌, List, [], ◌∷◌, length, Ok, Err, Result, refl, ap, ◌∙◌, subst, arith}
 use Rattle.std.proofs.lemmas.List.{length-take-le}
 use Rattle.faults.specs.declared.worksheet.WorksheetFault.{WorksheetFault}
 use Rattle.rows.specs.declared.line.Line.{Line}
@@ -7,7 +7,6 @@ use Rattle.fields.specs.Residues.{residues}
 use Rattle.monomials.specs.Rules.{lexicographic}
 use Rattle.polynomials.specs.Arrays.{array_meaning}
 use Rattle.rows.specs.Ideals.{SetUp, Lawful, array_set_up}
-use Rattle.rows.specs.Lines.{stairs_of}
 use Rattle.rows.proofs.Counts.{stairs_counted, lines_bounded}
 use Rattle.worksheet.specs.declared.answers.Ran.{Ran}
 use Rattle.worksheet.specs.declared.answers.Ending.{Ending}
@@ -19,7 +18,7 @@ use Rattle.worksheet.specs.Pasts.{Call, step, run, judged_in}
 use Rattle.worksheet.specs.LongRun.{Outcome}
 use Rattle.worksheet.proofs.Holding.{Holds, opened_holds, past_holds}
 use Rattle.worksheet.proofs.Outcomes.{long_run}
-use Rattle.worked_past.specs.WorkedPast.{one_cell, Calls, past_of, WorkedPast}
+use Rattle.worked_past.specs.WorkedPast.{one_cell, Calls, WorkedPast}
 
 module _ (K : Lawful one_cell) (lent : List Line) (three : length lent ≡ 3) (c : Calls) (fresh first after : Sheet)
     (is_fresh : fresh ≡ opened one_cell.subject one_cell.field lent)

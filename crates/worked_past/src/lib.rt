@@ -1,4 +1,6 @@
 // A past with every kind of call, made of the calls themselves: the long-run statement speaks of something.
+#![tactic(auto)]
+
 ghost use Rattle.worked_past.specs.WorkedPast.{WorkedPast};
 
 use fields::Residue;

@@ -1,4 +1,6 @@
 // The worksheet: it judges monomial after monomial into lent lines, and answers from them.
+#![tactic(auto)]
+
 mod answers;
 mod judged;
 mod lines;

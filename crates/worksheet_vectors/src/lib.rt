@@ -1,3 +1,5 @@
+#![tactic(auto)]
+
 // Worked examples of the worksheet. The expected values were computed by another program, or by hand.
 #[cfg(test)]
 mod lines;

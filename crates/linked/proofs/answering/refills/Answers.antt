@@ -1,5 +1,5 @@
 -- One code more is written, or a refill is refused.
-use Rattle.std.proofs.Common.{◌≡◌, ◌+◌, ◌/◌, ◌<◌, ◌≤◌, ◌≢◌, length, Ok, Err, sym, refl, ◌∙◌, subst, inl, inr, arith, get_or-set_other, get_or-set_same, below_more}
+use Rattle.std.proofs.Common.{◌≡◌, ◌/◌, ◌<◌, ◌≤◌, ◌≢◌, length, Ok, Err, sym, refl, ◌∙◌, subst, inl, inr, arith, get_or-set_other, get_or-set_same, below_more}
 use Rattle.monomials.specs.Monomials.{mono}
 use Rattle.worksheet.specs.Questions.{Refills}
 use Rattle.worksheet.specs.Views.{sheet}

@@ -1,5 +1,5 @@
 -- One remainder more is written, or one is refused.
-use Rattle.std.proofs.Common.{◌≡◌, ℕ, ◌+◌, ◌*◌, ◌/◌, ◌<◌, ◌≤◌, min, length, Ok, sym, refl, ap, ◌∙◌, subst, inl, inr, arith, below_more}
+use Rattle.std.proofs.Common.{◌≡◌, ◌+◌, ◌*◌, ◌/◌, ◌<◌, min, length, Ok, refl, ◌∙◌, subst, inr, arith, below_more}
 use Rattle.worksheet.specs.Questions.{stairs_in, RemainderRefused}
 use Rattle.worksheet.specs.Views.{sheet}
 use Rattle.linked.specs.Answers.{RemainderAt, Remaindered}

@@ -1,5 +1,5 @@
 -- A part of the numbers is written, and no other.
-use Rattle.std.proofs.Common.{◌≡◌, ◌+◌, ◌-◌, ◌<◌, ◌≤◌, length, ◌∙◌, subst, arith}
+use Rattle.std.proofs.Common.{◌≡◌, ◌+◌, ◌-◌, ◌≤◌, length, ◌∙◌, arith}
 use borrow.Rule.Slice.PartMut.{mid_of, mid_len}
 use Rattle.linked.proofs.Placing.{in_part, before_part, after_part}
 use Rattle.linked.proofs.answering.write_remainder.Goals as goal

@@ -1,5 +1,5 @@
 -- The sheet is opened over 193 lines under the array that was set, run and asked.
-use Rattle.std.proofs.Common.{◌≡◌, replicate, refl, subst₂}
+use Rattle.std.proofs.Common.{replicate, refl, subst₂}
 use Rattle.polynomials.specs.Arrays.{array_meaning}
 use Rattle.worksheet.specs.declared.answers.Ending.TheVariants as endings
 use Rattle.worksheet.specs.Views.{sheet}

@@ -1,5 +1,5 @@
 -- One term more is written.
-use Rattle.std.proofs.Common.{◌<◌, ◌≢◌, length, ◌∙◌, arith, length-set, get_or-set_other, get_or-set_same, rules, below_more}
+use Rattle.std.proofs.Common.{◌<◌, ◌≢◌, length, ◌∙◌, arith, length-set, get_or-set_other, get_or-set_same, below_more}
 use Rattle.linked.proofs.numbers.terms_from.Goals as goal
 
 pub loop-j-preserved : goal.loop-j-preserved

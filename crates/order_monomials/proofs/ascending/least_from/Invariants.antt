@@ -1,6 +1,6 @@
 -- The place is that of a least monomial so far.
-use Rattle.std.proofs.Common.{ℕ, ◌<◌, ◌≤◌, length}
-use Rattle.order_monomials.specs.Ascending.{at, LeastAmong}
+use Rattle.std.proofs.Common.{◌<◌, ◌≤◌, length}
+use Rattle.order_monomials.specs.Ascending.{LeastAmong}
 use Rattle.order_monomials.proofs.ascending.least_from.Given as goal
 
 abbrev pub invariant-loop-place : goal.invariant-loop-place

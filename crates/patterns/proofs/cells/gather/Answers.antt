@@ -1,8 +1,6 @@
 -- One cell more has its record's code.
-use Rattle.std.proofs.Common.{◌≡◌, ℕ, ◌-◌, ◌<◌, ◌≤◌, ◌≢◌, ◌++◌, length, get_or, take, replicate, sym, refl, ap, ◌∙◌, subst, arith, length-set, get_or-set_other, get_or-set_same, below_more}
+use Rattle.std.proofs.Common.{◌≡◌, ◌-◌, ◌<◌, ◌≤◌, ◌≢◌, ◌++◌, length, take, replicate, sym, refl, ap, ◌∙◌, subst, arith, length-set, get_or-set_other, get_or-set_same, below_more}
 use Rattle.std.proofs.lemmas.List.{get_or_default, get_or-take, length-take-le}
-use Rattle.monomials.specs.Monomials.{mono}
-use Rattle.polynomials.specs.Arrays.{cell_at}
 use Rattle.patterns.specs.Files.{blank, entry}
 use Rattle.patterns.specs.Cells.{OfCell, code_of}
 use Rattle.fields.proofs.Zeros.{zeros, zeros_after}

@@ -1,5 +1,5 @@
 -- The cell at fault has a record, as every cell has.
-use Rattle.std.proofs.Common.{◌≡◌, ◌<◌, subst}
+use Rattle.std.proofs.Common.{◌<◌, subst}
 use Rattle.patterns.proofs.codes.check_codes.Goals as goal
 
 pub record_of_cell-place-requires : goal.record_of_cell-place-requires

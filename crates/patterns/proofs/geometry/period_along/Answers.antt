@@ -1,8 +1,7 @@
 -- Every period is positive where there are cells, and an absent one is 1.
-use Rattle.std.proofs.Common.{◌≡◌, ◌<◌, length, get_or, sym, ◌∙◌, arith, rules}
+use Rattle.std.proofs.Common.{◌<◌, sym, ◌∙◌, arith, rules}
 use mathlib.Core.Path.{subst⁻¹}
 use Rattle.std.proofs.lemmas.List.{get_or_default, get_or_past}
-use Rattle.polynomials.specs.Arrays.{period}
 use Rattle.polynomials.proofs.Wrapping.{period_positive}
 use Rattle.patterns.proofs.geometry.period_along.Goals as goal
 

@@ -1,5 +1,5 @@
 -- The stages one after another: the first that refuses refuses the file, and all together give what it means.
-use Rattle.std.proofs.Common.{◌≡◌, take, sym, refl, ap, ◌∙◌, subst, subst₂}
+use Rattle.std.proofs.Common.{take, sym, refl, ap, ◌∙◌, subst, subst₂}
 use Rattle.std.proofs.lemmas.Result.{err_from_is_err_and}
 use Rattle.records.specs.Periods.{periods_of}
 use Rattle.patterns.specs.Files.{FileSays}

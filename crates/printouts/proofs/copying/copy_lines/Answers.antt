@@ -1,5 +1,5 @@
 -- As many lines are judged as are used.
-use Rattle.std.proofs.Common.{◌≡◌, ◌<◌, ◌≤◌, length, sym, ◌∙◌, subst, arith}
+use Rattle.std.proofs.Common.{◌≡◌, ◌≤◌, length, sym, ◌∙◌, arith}
 use Rattle.std.proofs.lemmas.List.{length-take-le}
 use Rattle.worksheet.specs.Sheets.{judged}
 use Rattle.worksheet.specs.Views.{sheet}

@@ -1,5 +1,5 @@
 -- A file that is taken is worked out as the pattern that it means.
-use Rattle.std.proofs.Common.{◌≡◌, ℕ, ◌-◌, List, take, string_bytes, sym, ap, ◌∙◌, subst₂, arith}
+use Rattle.std.proofs.Common.{◌≡◌, ◌-◌, take, string_bytes, sym, ap, ◌∙◌, subst₂, arith}
 use mathlib.Core.Path.{subst⁻¹}
 use Rattle.subjects.specs.ArrayGrounds.{ArrayAdmitted}
 use Rattle.listings.specs.Listings.{refusal_line}

@@ -1,5 +1,4 @@
-use Rattle.std.proofs.Common.{◌∷◌, ◌++◌, Some, None, refl, ap, ◌∙◌, inl, lit<}
-use Rattle.std.proofs.lemmas.Str.Pattern.{split_parts}
+use Rattle.std.proofs.Common.{Some, None, refl, inl}
 use Rattle.std.proofs.lemmas.Result.{err_from_is_err_and}
 use Rattle.show_staircase.proofs.Cuts.{line_cut, neither, stair_only, relation_only}
 use Rattle.show_staircase.proofs.entries.entry.Goals as goal

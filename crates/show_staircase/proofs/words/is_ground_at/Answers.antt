@@ -1,4 +1,4 @@
-use Rattle.std.proofs.Common.{Some, None, codes, sym, ◌∙◌, subst, lit<, rules}
+use Rattle.std.proofs.Common.{Some, None, codes, sym, ◌∙◌, lit<, rules}
 use mathlib.Core.Path.{subst⁻¹}
 use borrow.Author.Tests.{clash}
 use Rattle.std.proofs.lemmas.Str.Pattern.{split_after, split_parts}

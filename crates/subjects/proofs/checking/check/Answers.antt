@@ -1,7 +1,7 @@
 -- The grounds are met in their order; then every position is looked at.
-use Rattle.std.proofs.Common.{◌≡◌, ◌<◌, sym, ◌∙◌, subst, arith}
+use Rattle.std.proofs.Common.{◌∙◌, subst, arith}
 use Rattle.faults.specs.Places.{FirstAt, NoneAt}
-use Rattle.polynomials.specs.Terms.{ExponentFault, TermsAdmitted}
+use Rattle.polynomials.specs.Terms.{ExponentFault}
 use Rattle.subjects.proofs.checking.check.Goals as goal
 
 pub returns-in-Some-first_exponent_outside : goal.returns-in-Some-first_exponent_outside
