@@ -10,7 +10,7 @@ use rows::Verdict;
 
 // The two exponents that a text has, with a space between.
 fn pair(text: &str) -> Result<(u16, u16), Ground>
-    ensures { MatchResult result (λ p. Pair text.now p.0 p.1) (λ ground. NoMonomial ground × Never (Pair text.now)) }
+    ensures { MatchResult result (λ p. Pair text.now p.0 p.1) (λ reason. NoMonomial reason × Never (Pair text.now)) }
 {
     let Some((first, second)) = text.split_once(' ') else {
         return Err(Ground::Axes);
@@ -29,7 +29,7 @@ fn pair(text: &str) -> Result<(u16, u16), Ground>
 
 // The exponents of a relation, before its codes.
 fn relation(text: &str) -> Result<(u16, u16), Ground>
-    ensures { MatchResult result (λ p. RelationText text.now p.0 p.1) (λ ground. NoMonomial ground × Never (RelationText text.now)) }
+    ensures { MatchResult result (λ p. RelationText text.now p.0 p.1) (λ reason. NoMonomial reason × Never (RelationText text.now)) }
 {
     let Some((before, codes)) = text.split_once(':') else {
         return Err(Ground::Line);
@@ -46,7 +46,7 @@ fn relation(text: &str) -> Result<(u16, u16), Ground>
 
 // The monomial that a line lists.
 pub fn entry(line: &str) -> Result<Listed, Ground>
-    ensures { MatchResult result (λ l. Lists line.now l) (λ ground. NoMonomial ground × ((l : Listed) → Lists line.now l → ⊥)) }
+    ensures { MatchResult result (λ l. Lists line.now l) (λ reason. NoMonomial reason × ((l : Listed) → Lists line.now l → ⊥)) }
 {
     let Some((word, rest)) = line.split_once(' ') else {
         return Err(Ground::Line);

@@ -26,7 +26,7 @@ enum Line {
 
 // What a line says where something is awaited.
 fn say(awaited: Awaited, line: &str) -> Result<Line, Ground>
-    ensures { MatchResult result (λ said. Said awaited line.now said) (λ ground. Unsaid awaited line.now ground) }
+    ensures { MatchResult result (λ said. Said awaited line.now said) (Unsaid awaited line.now) }
 {
     match awaited {
         Awaited::Heading if is_counting(line, "judged") => Ok(Line::Heading),

@@ -6,7 +6,7 @@ mod judged;
 mod lines;
 mod opening;
 mod reading;
-mod refilling;
+mod refills;
 mod remaindering;
 mod running;
 mod selection;
