@@ -1,7 +1,7 @@
 -- What the words and lines of a listing say.
 use Rattle.std.specs.Prelude.{◌≡◌, ℕ, ◌^◌, ◌<◌, ◌≤◌, Bool, true, false, ◌⊎◌, List, [], ◌∷◌, ◌++◌, length, Some, None, codes, Option, ◌≢◌, slice_index}
 use Rattle.std.specs.Str.Parse.{IsNumeral, digits_value, without_leading_plus}
-use Rattle.std.specs.List.{AllByRecursion as All}
+use Rattle.std.specs.List.{AllByRecursion}
 use Rattle.rows.specs.declared.verdict.Verdict.{Verdict}
 use Rattle.rows.specs.declared.verdict.Verdict.TheVariants.{Stair, Relation}
 use Rattle.show_staircase.specs.declared.grounds.Ground.{Ground}
@@ -115,4 +115,4 @@ Drawn l = (l.u ≤ largest) × (l.v ≤ largest)
 
 -- each listed monomial does
 abbrev pub AllDrawn : List Listed → Type 0
-AllDrawn ls = All Drawn ls
+AllDrawn ls = AllByRecursion Drawn ls
