@@ -17,7 +17,7 @@ from pathlib import Path
 from records import *
 from reference import LINES, MODULI, MOST_CELLS, REDUCED_BY, USED, printout
 
-PROGRAM = Path(__file__).resolve().parent.parent / "target" / "bin" / "relations"
+PROGRAM = Path(__file__).resolve().parent.parent / "crates" / "relations" / "out" / "relations"
 EDGES = (0, 1, 2, 3, 4, 5, 8, 63, 64, 65, 255, 256, 257, 65520, 65521, 65535)
 SAVED, SECONDS, PIECES = 10, 60, 20
 
@@ -191,7 +191,7 @@ def main():
     options.add_argument("--seed", type=int, default=1)
     given = options.parse_args()
     if not Path(given.program).is_file():
-        sys.exit(f"no program {given.program}: rt check relations builds it")
+        sys.exit(f"no program {given.program}: rt run in crates/relations builds it")
     kinds, outcomes, most, differences, folder = Counter(), Counter(), 0, 0, None
     for number, (kind, data) in enumerate(files(random.Random(given.seed), given.count)):
         text = printout(data)

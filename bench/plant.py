@@ -15,7 +15,7 @@ is checked with its tests left aside, and one line is printed: crate, label, and
     timeout    neither within the time
 
 The lines are added to FILE, and a bug that has one there is passed over; what the prover said is left in DIR.
-Run 'rt check' first, so that only the edited crate is checked again.
+Run 'rt check' in each crate first, so that only what the bug touches is checked again.
 """
 import os
 import re
@@ -82,16 +82,10 @@ def first_error(log):
     return left[2] + " " + re.sub(r"\S*/crates/", "", left[3])[:110] if left else "?"
 
 
-def copied(work, crates):
-    """A copy of the repository with what is proved of it."""
+def copied(work):
+    """A copy of the repository with what is proved of it, in the out/ of each crate."""
     shutil.copytree(os.path.join(ROOT, "crates"), os.path.join(work, "crates"))
     shutil.copy(os.path.join(ROOT, "crates.txt"), work)
-    os.mkdir(os.path.join(work, "target"))
-    parts = ["rlib", "stamp", "log"] + ["inc/" + crate for crate in crates]
-    for part in parts:
-        source = os.path.join(ROOT, "target", part)
-        if os.path.isdir(source):
-            shutil.copytree(source, os.path.join(work, "target", part))
 
 
 def try_bug(work, crate, label, logs):
@@ -102,7 +96,7 @@ def try_bug(work, crate, label, logs):
         with open(os.path.join(work, "crates", crate, file), "w") as out:
             out.write(text)
     run = subprocess.Popen(
-        ["nice", "rt", "dev", crate], cwd=work, stdout=subprocess.PIPE, stderr=subprocess.STDOUT, text=True, start_new_session=True
+        ["nice", "rt", "check"], cwd=os.path.join(work, "crates", crate), stdout=subprocess.PIPE, stderr=subprocess.STDOUT, text=True, start_new_session=True
     )
     try:
         log = run.communicate(timeout=SECONDS)[0]
@@ -140,7 +134,7 @@ def main():
     todo = [bug for bug in bugs(set(words)) if bug not in known]
     counts = {}
     with tempfile.TemporaryDirectory(prefix="plant.") as work:
-        copied(work, sorted({crate for crate, _ in todo}))
+        copied(work)
         for crate, label in todo:
             began = time.time()
             outcome, detail = try_bug(work, crate, label, logs)

@@ -5,10 +5,10 @@ set -e
 here=$(cd "$(dirname "$0")" && pwd)
 root=$(cd "$here/../.." && pwd)
 cd "$root"
-library=target/staticlib/liblinked.a
-if [ ! -f "$library" ] || [ -n "$(find crates crates.txt -newer "$library" -type f | head -n 1)" ]; then
-    rt staticlib linked >/dev/null
+library=crates/linked/out/liblinked.a
+if [ ! -f "$library" ] || [ -n "$(find crates crates.txt -name out -prune -o -newer "$library" -type f -print | head -n 1)" ]; then
+    (cd crates/linked && rt lib >/dev/null)
 fi
 mkdir -p target/speed
-rustc --edition 2024 -C opt-level=3 -C codegen-units=1 -L "$root/target/staticlib" -l static=linked -o target/speed/speed "$here/src/main.rs"
+rustc --edition 2024 -C opt-level=3 -C codegen-units=1 -L "$root/crates/linked/out" -l static=linked -o target/speed/speed "$here/src/main.rs"
 exec target/speed/speed "$@"

@@ -1,7 +1,7 @@
 // Where a product by a variable stands among stairs and among lines.
 ghost use Rattle.std.specs.Prelude.{◌≡◌, ℕ, ◌<◌, ◌≤◌, false, length, Decides, MatchOption};
 ghost use Rattle.monomials.specs.Monomials.{mono};
-ghost use Rattle.rows.specs.Lines.{monomial_of, line as line_at_lem, is_stair};
+ghost use Rattle.rows.specs.Lines.{monomial_of, line as line_at, is_stair};
 ghost use Rattle.refilling.specs.Borders.{IsProduct};
 ghost use Rattle.refilling.specs.Tables.{listed_at};
 
@@ -37,7 +37,7 @@ pub(crate) fn find_stair(stairs: &Stairs, factor: &Monomial, variable: usize) ->
 
 // The place of the first relation that the product leads.
 pub(crate) fn find_relation(lines: &[Line], factor: &Monomial, variable: usize) -> Option<usize>
-    ensures { MatchOption result ((i : ℕ) → i < length lines.now → is_stair (line_at_lem lines.now i) ≡ false → IsProduct (mono factor.now.exponents) variable (monomial_of (line_at_lem lines.now i)) → ⊥) (λ i. (i < length lines.now) × (is_stair (line_at_lem lines.now i) ≡ false) × IsProduct (mono factor.now.exponents) variable (monomial_of (line_at_lem lines.now i))) }
+    ensures { MatchOption result ((i : ℕ) → i < length lines.now → is_stair (line_at lines.now i) ≡ false → IsProduct (mono factor.now.exponents) variable (monomial_of (line_at lines.now i)) → ⊥) (λ i. (i < length lines.now) × (is_stair (line_at lines.now i) ≡ false) × IsProduct (mono factor.now.exponents) variable (monomial_of (line_at lines.now i))) }
 {
     for (place, line) in lines.iter().enumerate() {
         if let Verdict::Relation = line.verdict {
