@@ -34,7 +34,7 @@ AT = r"((?:src|proofs|specs)/[^\s:]+:\d+):\d+"
 
 def order_of_crates():
     with open(os.path.join(ROOT, "crates.txt")) as lines:
-        return [line.split(":")[0] for line in lines if ":" in line and not line.startswith("#")]
+        return [line.split(":")[0].split()[0] for line in lines if ":" in line and not line.startswith("#")]
 
 
 def bugs(names):

@@ -2,7 +2,7 @@
 ghost use Rattle.std.specs.Prelude.{◌≡◌, ℕ, ◌+◌, ◌<◌, ◌≤◌, min, length, slice_index};
 ghost use Rattle.worksheet.specs.Sheets.{judged};
 ghost use Rattle.worksheet.specs.Questions.{stairs_in};
-ghost use Rattle.worksheet.specs.Views.{sheet as sheet-of};
+ghost use Rattle.worksheet.specs.Views.{sheet as sheet_of};
 ghost use Rattle.linked.specs.Numbers.{SameFrom};
 ghost use Rattle.linked.specs.Answers.{Lists, ContinuesEach, LeavesEach, Answers, RemainderAt};
 
@@ -20,7 +20,7 @@ const POLYNOMIAL_NUMBERS: usize = 320;
 
 // All lines, where there is room for them; answers how many there are.
 fn lines(sheet: &Worksheet, out: &mut [u16]) -> usize
-    ensures { Lists (judged (sheet-of sheet.now)) out.old result out.new }
+    ensures { Lists (judged (sheet_of sheet.now)) out.old result out.new }
 {
     let judged = sheet.summary().judged;
     if judged > out.len() / LINE_NUMBERS {
@@ -38,7 +38,7 @@ fn refills<F: Field>(
     asked: &[u16],
     out: &mut [u16],
 ) -> usize
-    ensures { ContinuesEach (F.Field.arithmetic field.now) codes.now asked.now (sheet-of sheet.now) out.old result out.new }
+    ensures { ContinuesEach (F.Field.arithmetic field.now) codes.now asked.now (sheet_of sheet.now) out.old result out.new }
 {
     let count = asked.len() / 4;
     if count > out.len() {
@@ -55,7 +55,7 @@ fn refills<F: Field>(
 
 // How many codes a remainder takes: one for each stair, at most 64.
 fn places(sheet: &Worksheet) -> usize
-    ensures { result ≡ min (stairs_in (sheet-of sheet.now)) 64 }
+    ensures { result ≡ min (stairs_in (sheet_of sheet.now)) 64 }
 {
     sheet.summary().stairs.min(64)
 }
@@ -71,7 +71,7 @@ fn write_remainder<S: Subject, F: Field>(
     start: usize,
 ) -> Result<(), WorksheetFault>
     requires { start + stairs ≤ length out.old }
-    ensures is { RemainderAt (S.Subject.meaning subject.now) (F.Field.arithmetic field.now) terms.now (sheet-of sheet.now) stairs start result out.new }
+    ensures is { RemainderAt (S.Subject.meaning subject.now) (F.Field.arithmetic field.now) terms.now (sheet_of sheet.now) stairs start result out.new }
     ensures front { (k : ℕ) → k < start → slice_index out.new k ≡ slice_index out.old k }
     ensures rest { SameFrom (start + stairs) out.old out.new }
 {
@@ -86,7 +86,7 @@ fn remainders<S: Subject, F: Field>(
     asked: &[u16],
     out: &mut [u16],
 ) -> usize
-    ensures { LeavesEach (S.Subject.meaning subject.now) (F.Field.arithmetic field.now) asked.now (sheet-of sheet.now) out.old result out.new }
+    ensures { LeavesEach (S.Subject.meaning subject.now) (F.Field.arithmetic field.now) asked.now (sheet_of sheet.now) out.old result out.new }
 {
     let count = asked.len() / POLYNOMIAL_NUMBERS;
     let stairs = places(sheet);
@@ -113,7 +113,7 @@ pub(crate) fn answer<S: Subject, F: Field>(
     asked: &[u16],
     out: &mut [u16],
 ) -> usize
-    ensures { Answers task (S.Subject.meaning subject.now) (F.Field.arithmetic field.now) codes.now asked.now (sheet-of sheet.now) out.old result out.new }
+    ensures { Answers task (S.Subject.meaning subject.now) (F.Field.arithmetic field.now) codes.now asked.now (sheet_of sheet.now) out.old result out.new }
 {
     match task {
         Task::Lines => lines(sheet, out),

@@ -2,7 +2,7 @@
 ghost use Rattle.std.specs.Prelude.{◌≡◌, ℕ, ◌+◌, ◌*◌, ◌<◌, ◌≤◌, length, if◌then◌else◌, slice_index};
 ghost use Rattle.rows.specs.Lines.{is_stair};
 ghost use Rattle.worksheet.specs.Sheets.{judged};
-ghost use Rattle.worksheet.specs.Views.{sheet as sheet-of};
+ghost use Rattle.worksheet.specs.Views.{sheet as sheet_of};
 ghost use Rattle.linked.specs.Numbers.{LineAt, LinesAt, SameFrom};
 
 use rows::{Line, Verdict};
@@ -47,8 +47,8 @@ fn write_line(out: &mut [u16], start: usize, line: &Line)
 
 // Writes the judged lines, so many, one after another.
 pub(crate) fn write_lines(sheet: &Worksheet, count: usize, out: &mut [u16])
-    requires { (count ≡ (sheet-of sheet.now).used) × (69 * count ≤ length out.old) }
-    ensures written { LinesAt out.new count (judged (sheet-of sheet.now)) }
+    requires { (count ≡ (sheet_of sheet.now).used) × (69 * count ≤ length out.old) }
+    ensures written { LinesAt out.new count (judged (sheet_of sheet.now)) }
     ensures rest { SameFrom (69 * count) out.old out.new }
 {
     let mut line = Line::unused();

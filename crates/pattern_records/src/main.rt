@@ -12,10 +12,10 @@ mod statement;
 mod taking;
 mod text;
 
-use anyhow::anyhow;
 use appending::records_of;
 use pattern::Pattern;
 use std::io::{Read, Write};
+use std::process::ExitCode;
 use text::pattern_of;
 
 // All of standard input.
@@ -32,13 +32,16 @@ fn write_records(rt: &HostRuntime, pattern: &Pattern) -> anyhow::Result<()> {
     Ok(())
 }
 
-fn main(rt: HostRuntime) -> anyhow::Result<()> {
+fn main(rt: HostRuntime) -> anyhow::Result<ExitCode> {
     let bytes = input(&rt)?;
     match pattern_of(rt.alloc(), bytes.as_slice()) {
-        Ok(pattern) => write_records(&rt, &pattern),
+        Ok(pattern) => {
+            write_records(&rt, &pattern)?;
+            Ok(ExitCode::SUCCESS)
+        }
         Err(fault) => {
             eprintln!(rt; "{fault}")?;
-            Err(anyhow!("a line is at fault"))
+            Ok(ExitCode::FAILURE)
         }
     }
 }

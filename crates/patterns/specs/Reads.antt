@@ -30,7 +30,7 @@ pub record Sorted (bytes : List ℕ) (es : List Entry) (s : Singles) : Type 0 wh
   pub singled : Singled es s
 
 -- such a file whose field, order and periods are admitted
-pub record Laid_out (bytes : List ℕ) (es : List Entry) (s : Singles) : Type 0 where
+pub record LaidOut (bytes : List ℕ) (es : List Entry) (s : Singles) : Type 0 where
   pub sorted : Sorted bytes es s
   pub admits : Admits s
   pub periods : PeriodsAdmitted (periods_of s.period)
@@ -39,7 +39,7 @@ pub record Laid_out (bytes : List ℕ) (es : List Entry) (s : Singles) : Type 0 
 pub record FileMeans (bytes : List ℕ) (p : Pattern) : Type 0 where
   pub entries : List Entry
   pub singles : Singles
-  pub laid_out : Laid_out bytes entries singles
+  pub laid_out : LaidOut bytes entries singles
   pub field : p.field ≡ field_meant singles.«field»
   pub order : p.order ≡ order_meant singles.order
   pub periods : p.periods ≡ periods_of singles.period
@@ -51,7 +51,7 @@ pub data Refused (bytes : List ℕ) (place : ℕ) (fault : FileFault) : Type 0 w
   undecoded : Undecoded bytes place fault → Refused bytes place fault
   unsorted : (es : List Entry) → FileSays bytes es → fault ≡ Single → SingleFault es place → Refused bytes place fault
   unplanned : (es : List Entry) (s : Singles) → Sorted bytes es s → Unplanned s place fault → Refused bytes place fault
-  unfilled : (es : List Entry) (s : Singles) → Laid_out bytes es s → Unfilled (field_meant s.«field»).order (periods_of s.period) es place fault →
+  unfilled : (es : List Entry) (s : Singles) → LaidOut bytes es s → Unfilled (field_meant s.«field»).order (periods_of s.period) es place fault →
       Refused bytes place fault
 
 -- the pattern of a plan with lent codes, of which the first are its cells

@@ -5,7 +5,7 @@ use Rattle.records.specs.Periods.{periods_of}
 use Rattle.patterns.specs.Files.{FileSays}
 use Rattle.patterns.specs.Plans.{field_of, WidthOf}
 use Rattle.patterns.specs.Fillings.{Filled, Unfilled}
-use Rattle.patterns.specs.Reads.{Sorted, Laid_out, undecoded, unsorted, unplanned, unfilled}
+use Rattle.patterns.specs.Reads.{Sorted, LaidOut, undecoded, unsorted, unplanned, unfilled}
 use Rattle.patterns.proofs.reading.read.Goals as goal
 
 pub returns-in_err-decoded : goal.returns-in_err-decoded
@@ -35,7 +35,7 @@ returns-in_err-cells c =
     let fault = c.in_err-cells.field-0.0 in
     let planned = c.in_ok-plan.ensures in
     let says = subst (FileSays c.args.bytes.now) (sym c.as_slice-entries.ensures) c.in_ok-decoded.ensures in
-    let laid_out : Laid_out c.args.bytes.now es s = record {
+    let laid_out : LaidOut c.args.bytes.now es s = record {
       sorted = record { says = says; singled = c.in_ok-singles.ensures };
       admits = planned.admits;
       periods = planned.width.admitted;
