@@ -4,5 +4,6 @@ pub mod Pushes
 pub mod Echelons
 pub mod Steps
 pub mod Turns
+pub mod Passes
 pub mod Making
 pub mod Remainders
