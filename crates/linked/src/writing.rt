@@ -25,10 +25,7 @@ pub(crate) fn put(out: &mut [u16], start: usize, numbers: &[u16])
 fn verdict_number(line: &Line) -> u16
     ensures { result ≡ (if is_stair line.now then 1 else 0) }
 {
-    match line.verdict {
-        Verdict::Stair => 1,
-        Verdict::Relation => 0,
-    }
+    u16::from(line.verdict == Verdict::Stair)
 }
 
 // Writes a line from a place on.
