@@ -9,5 +9,7 @@ mod record;
 mod writing;
 
 pub use entry::{CellRecord, Entry, FieldRecord, OrderRecord};
+pub use listed::NotOneToFour;
 pub use period::PeriodRecord;
-pub use record::Record;
+pub use reading::SaysNothing;
+pub use record::{NotTwelveBytes, Record};

@@ -1,5 +1,5 @@
 // What a record says: nothing where its kind or subkind is not listed, or a number that it does not use is not 0.
-ghost use Rattle.std.specs.Option.{MatchOption};
+ghost use Rattle.std.specs.Prelude.{MatchOption, MatchResult};
 ghost use Rattle.records.specs.Format.{SaysField, SaysOrder, SaysPeriod, SaysCell, Says};
 ghost use Rattle.records.specs.declared.entry.Entry.{Entry};
 ghost use Rattle.records.specs.declared.entry.FieldRecord.{FieldRecord};
@@ -36,14 +36,13 @@ fn order_record(subkind: u8, numbers: [u16; 5]) -> Option<OrderRecord>
 fn period_record(subkind: u8, numbers: [u16; 5]) -> Option<PeriodRecord>
     ensures { MatchOption result ((p : PeriodRecord) → SaysPeriod subkind numbers p → ⊥) (SaysPeriod subkind numbers) }
 {
-    let (count, periods) = match (subkind, numbers) {
-        (1, [a, 0, 0, 0, 0]) => (1, [a, 0, 0, 0]),
-        (2, [a, b, 0, 0, 0]) => (2, [a, b, 0, 0]),
-        (3, [a, b, c, 0, 0]) => (3, [a, b, c, 0]),
-        (4, [a, b, c, d, 0]) => (4, [a, b, c, d]),
-        _ => return None,
-    };
-    Some(PeriodRecord { count, periods })
+    match (subkind, numbers) {
+        (1, [a, 0, 0, 0, 0]) => Some(PeriodRecord::One([a])),
+        (2, [a, b, 0, 0, 0]) => Some(PeriodRecord::Two([a, b])),
+        (3, [a, b, c, 0, 0]) => Some(PeriodRecord::Three([a, b, c])),
+        (4, [a, b, c, d, 0]) => Some(PeriodRecord::Four([a, b, c, d])),
+        _ => None,
+    }
 }
 
 fn cell_record(subkind: u8, numbers: [u16; 5]) -> Option<CellRecord>
@@ -60,17 +59,23 @@ fn cell_record(subkind: u8, numbers: [u16; 5]) -> Option<CellRecord>
     }
 }
 
-impl Entry {
-    // What the record says.
-    pub fn from_record(held: &Record) -> Option<Entry>
-        ensures { MatchOption result ((e : Entry) → Says held.now e → ⊥) (Says held.now) }
-    {
-        match held.kind {
-            1 => Some(Entry::Field(field_record(held.subkind, held.numbers)?)),
-            2 => Some(Entry::Order(order_record(held.subkind, held.numbers)?)),
-            3 => Some(Entry::Period(period_record(held.subkind, held.numbers)?)),
-            4 => Some(Entry::Cell(cell_record(held.subkind, held.numbers)?)),
+// The record says nothing.
+#[derive(Clone, Copy, PartialEq, Eq, Debug)]
+pub struct SaysNothing;
+
+impl TryFrom<Record> for Entry {
+    type Error = SaysNothing;
+
+    ghost try_from_gives = { λ held r. MatchResult r (Says held) (λ _. (e : Entry) → Says held e → ⊥) };
+
+    fn try_from(held: Record) -> Result<Entry, SaysNothing> {
+        let said = match held.kind {
+            1 => field_record(held.subkind, held.numbers).map(Entry::Field),
+            2 => order_record(held.subkind, held.numbers).map(Entry::Order),
+            3 => period_record(held.subkind, held.numbers).map(Entry::Period),
+            4 => cell_record(held.subkind, held.numbers).map(Entry::Cell),
             _ => None,
-        }
+        };
+        said.ok_or(SaysNothing)
     }
 }
