@@ -7,7 +7,7 @@ use crate::keyword::Keyword;
 use std::alloc::{AllocError, AllocFailed};
 use std::fmt;
 
-#[derive(Drop)]
+#[derive(Debug, Drop)]
 pub enum Fault {
     NotText,
     Unknown(String),

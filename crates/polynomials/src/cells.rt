@@ -1,5 +1,5 @@
 // The cells of a period: whether coordinates lie inside it, and the coordinates of the cell at a position.
-ghost use Rattle.std.specs.Prelude.{◌≡◌, ◌/◌, ◌%◌, ◌<◌, ◌≤◌, length, Decides, MatchOption};
+ghost use Rattle.std.specs.Prelude.{◌≡◌, ◌+◌, ◌/◌, ◌%◌, ◌^◌, ◌<◌, ◌≤◌, length, Decides, MatchOption, OnSome};
 ghost use Rattle.monomials.specs.Monomials.{mono};
 ghost use Rattle.polynomials.specs.Arrays.{period, cells_of, cell_at, Inside};
 
@@ -44,7 +44,8 @@ fn divided(position: usize, by: u16) -> (u16, usize)
 // The coordinates of the cell at a position; none where the period has no such cell.
 pub fn cell_at(periods: &[u16], position: usize) -> Option<Monomial>
     requires { length periods.now ≤ 4 }
-    ensures { MatchOption result (cells_of periods.now ≤ position) (λ cell. (position < cells_of periods.now) × (mono cell.exponents ≡ cell_at periods.now position)) }
+    ensures cases { MatchOption result (cells_of periods.now ≤ position) (λ cell. (position < cells_of periods.now) × (mono cell.exponents ≡ cell_at periods.now position)) }
+    ensures next { OnSome result (position + 1 < 2 ^ 64) }
 {
     if position >= cell_count(periods) {
         return None;
