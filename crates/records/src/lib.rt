@@ -2,13 +2,16 @@
 #![tactic(auto)]
 
 mod entry;
+mod kind;
 mod listed;
 mod period;
 mod reading;
 mod record;
+mod unused;
 mod writing;
 
 pub use entry::{CellRecord, Entry, FieldRecord, OrderRecord};
+pub use kind::Kind;
 pub use listed::NotOneToFour;
 pub use period::PeriodRecord;
 pub use reading::SaysNothing;
