@@ -98,6 +98,7 @@ impl Filling<'_> {
         ensures { MatchOption result (CellMissing self.now.periods.now self.now.entries.now) (Gathered self.now.periods.now self.now.entries.now self.now.width) }
     {
         let mut cells = [0; 64];
+        // by index: of elements that an iterator writes a proof knows nothing
         for position in 0..self.width {
             let place = self.record_of_cell(position)?;
             cells[position] = code(&self.entries[place]);

@@ -39,12 +39,10 @@ fn first_that_says<T, F: Fn(&Entry) -> Option<T>>(
     requires { F.IsAlwaysCallable value_in }
     ensures { MatchOption result ((i : ℕ) → i < length entries.now → FnReturnsAt F.Fn value_in (entry entries.now i) None) (λ found. (found.place < length entries.now) × FnReturnsAt F.Fn value_in (entry entries.now found.place) (Some found.value)) }
 {
-    for (place, entry) in entries.iter().enumerate() {
-        if let Some(value) = value_in(entry) {
-            return Some(Placed { place, value });
-        }
-    }
-    None
+    entries.iter().enumerate().find_map(|(place, entry)| {
+        let value = value_in(entry)?;
+        Some(Placed { place, value })
+    })
 }
 
 // The records that come once; refused where one comes twice, or else is missing.

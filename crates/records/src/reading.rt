@@ -12,20 +12,22 @@ use crate::period::PeriodRecord;
 use crate::record::Record;
 use monomials::Monomial;
 
-fn field_record(subkind: u8, numbers: [u16; 5]) -> Option<FieldRecord>
-    ensures { MatchOption result ((f : FieldRecord) → SaysField subkind numbers f → ⊥) (SaysField subkind numbers) }
+fn field_record(held: Record) -> Option<FieldRecord>
+    ensures { MatchOption result ((f : FieldRecord) → SaysField held.subkind held.numbers f → ⊥) (SaysField held.subkind held.numbers) }
 {
-    match (subkind, numbers) {
+    let numbers = held.numbers;
+    match (held.subkind, numbers) {
         (0, [modulus, 0, 0, 0, 0]) => Some(FieldRecord::Modulus(modulus)),
         (1, [degree, 0, 0, 0, 0]) => Some(FieldRecord::Degree(degree)),
         _ => None,
     }
 }
 
-fn order_record(subkind: u8, numbers: [u16; 5]) -> Option<OrderRecord>
-    ensures { MatchOption result ((o : OrderRecord) → SaysOrder subkind numbers o → ⊥) (SaysOrder subkind numbers) }
+fn order_record(held: Record) -> Option<OrderRecord>
+    ensures { MatchOption result ((o : OrderRecord) → SaysOrder held.subkind held.numbers o → ⊥) (SaysOrder held.subkind held.numbers) }
 {
-    match (subkind, numbers) {
+    let numbers = held.numbers;
+    match (held.subkind, numbers) {
         (0, [0, 0, 0, 0, 0]) => Some(OrderRecord::Lexicographic),
         (1, [0, 0, 0, 0, 0]) => Some(OrderRecord::Graded),
         (2, [a, b, c, d, 0]) => Some(OrderRecord::Weighted([a, b, c, d])),
@@ -33,10 +35,11 @@ fn order_record(subkind: u8, numbers: [u16; 5]) -> Option<OrderRecord>
     }
 }
 
-fn period_record(subkind: u8, numbers: [u16; 5]) -> Option<PeriodRecord>
-    ensures { MatchOption result ((p : PeriodRecord) → SaysPeriod subkind numbers p → ⊥) (SaysPeriod subkind numbers) }
+fn period_record(held: Record) -> Option<PeriodRecord>
+    ensures { MatchOption result ((p : PeriodRecord) → SaysPeriod held.subkind held.numbers p → ⊥) (SaysPeriod held.subkind held.numbers) }
 {
-    match (subkind, numbers) {
+    let numbers = held.numbers;
+    match (held.subkind, numbers) {
         (1, [a, 0, 0, 0, 0]) => Some(PeriodRecord::One([a])),
         (2, [a, b, 0, 0, 0]) => Some(PeriodRecord::Two([a, b])),
         (3, [a, b, c, 0, 0]) => Some(PeriodRecord::Three([a, b, c])),
@@ -45,10 +48,11 @@ fn period_record(subkind: u8, numbers: [u16; 5]) -> Option<PeriodRecord>
     }
 }
 
-fn cell_record(subkind: u8, numbers: [u16; 5]) -> Option<CellRecord>
-    ensures { MatchOption result ((c : CellRecord) → SaysCell subkind numbers c → ⊥) (SaysCell subkind numbers) }
+fn cell_record(held: Record) -> Option<CellRecord>
+    ensures { MatchOption result ((c : CellRecord) → SaysCell held.subkind held.numbers c → ⊥) (SaysCell held.subkind held.numbers) }
 {
-    match (subkind, numbers) {
+    let numbers = held.numbers;
+    match (held.subkind, numbers) {
         (0, [a, b, c, d, code]) => Some(CellRecord {
             coordinates: Monomial {
                 exponents: [a, b, c, d],
@@ -70,10 +74,10 @@ impl TryFrom<Record> for Entry {
 
     fn try_from(held: Record) -> Result<Entry, SaysNothing> {
         let said = match held.kind {
-            1 => field_record(held.subkind, held.numbers).map(Entry::Field),
-            2 => order_record(held.subkind, held.numbers).map(Entry::Order),
-            3 => period_record(held.subkind, held.numbers).map(Entry::Period),
-            4 => cell_record(held.subkind, held.numbers).map(Entry::Cell),
+            1 => field_record(held).map(Entry::Field),
+            2 => order_record(held).map(Entry::Order),
+            3 => period_record(held).map(Entry::Period),
+            4 => cell_record(held).map(Entry::Cell),
             _ => None,
         };
         said.ok_or(SaysNothing)
