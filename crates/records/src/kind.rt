@@ -1,9 +1,10 @@
-// The kinds of entries.
+// Of which kind an entry is.
 ghost use Rattle.std.specs.Prelude.{◌≡◌};
 ghost use Rattle.records.specs.Kinds.{kind_of};
 
 use crate::entry::Entry;
 
+// The kinds of entries.
 #[derive(Clone, Copy, PartialEq, Eq, Debug)]
 pub enum Kind {
     Field,

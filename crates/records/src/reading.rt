@@ -12,6 +12,7 @@ use crate::period::PeriodRecord;
 use crate::record::Record;
 use monomials::Monomial;
 
+// The field that a record of that kind says.
 fn field_record(held: Record) -> Option<FieldRecord>
     ensures { MatchOption result ((f : FieldRecord) → SaysField held.subkind held.numbers f → ⊥) (SaysField held.subkind held.numbers) }
 {
@@ -23,6 +24,7 @@ fn field_record(held: Record) -> Option<FieldRecord>
     }
 }
 
+// The order that a record of that kind says.
 fn order_record(held: Record) -> Option<OrderRecord>
     ensures { MatchOption result ((o : OrderRecord) → SaysOrder held.subkind held.numbers o → ⊥) (SaysOrder held.subkind held.numbers) }
 {
@@ -35,6 +37,7 @@ fn order_record(held: Record) -> Option<OrderRecord>
     }
 }
 
+// The periods that a record of that kind says.
 fn period_record(held: Record) -> Option<PeriodRecord>
     ensures { MatchOption result ((p : PeriodRecord) → SaysPeriod held.subkind held.numbers p → ⊥) (SaysPeriod held.subkind held.numbers) }
 {
@@ -48,6 +51,7 @@ fn period_record(held: Record) -> Option<PeriodRecord>
     }
 }
 
+// The cell that a record of that kind says.
 fn cell_record(held: Record) -> Option<CellRecord>
     ensures { MatchOption result ((c : CellRecord) → SaysCell held.subkind held.numbers c → ⊥) (SaysCell held.subkind held.numbers) }
 {

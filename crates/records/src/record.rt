@@ -4,6 +4,7 @@ ghost use Rattle.records.specs.Layout.{record_of};
 
 use std::array;
 
+// A record, its bytes read as numbers.
 #[derive(Clone, Copy, PartialEq, Eq, Debug)]
 pub struct Record {
     pub kind: u8,

@@ -5,6 +5,7 @@ use crate::entry::{CellRecord, Entry, FieldRecord, OrderRecord};
 use crate::period::PeriodRecord;
 use crate::record::Record;
 
+// The subkind and the numbers that say a field.
 fn say_field(field: FieldRecord) -> (u8, [u16; 5])
     ensures { SaysField result.0 result.1 field }
 {
@@ -14,6 +15,7 @@ fn say_field(field: FieldRecord) -> (u8, [u16; 5])
     }
 }
 
+// The subkind and the numbers that say an order.
 fn say_order(order: OrderRecord) -> (u8, [u16; 5])
     ensures { SaysOrder result.0 result.1 order }
 {
@@ -27,6 +29,7 @@ fn say_order(order: OrderRecord) -> (u8, [u16; 5])
     }
 }
 
+// The subkind and the numbers that say periods.
 fn say_period(period: PeriodRecord) -> (u8, [u16; 5])
     ensures { SaysPeriod result.0 result.1 period }
 {
@@ -38,6 +41,7 @@ fn say_period(period: PeriodRecord) -> (u8, [u16; 5])
     }
 }
 
+// The subkind and the numbers that say a cell.
 fn say_cell(cell: CellRecord) -> (u8, [u16; 5])
     ensures { SaysCell result.0 result.1 cell }
 {
