@@ -1,5 +1,5 @@
 -- One line more after the others.
-use Rattle.std.proofs.Common.{◌≡◌, ℕ, ◌+◌, ◌<◌, ◌≤◌, List, [], ◌∷◌, ◌++◌, length, refl, subst, arith}
+use Rattle.std.proofs.Common.{◌≡◌, ℕ, ◌+◌, List, [], ◌∷◌, ◌++◌, length, refl, subst, arith}
 use Rattle.std.proofs.lemmas.List.{length_push}
 use Rattle.pattern_records.specs.declared.pattern.Pattern.{Pattern}
 use Rattle.pattern_records.specs.Lines.{TakesLine}
@@ -11,7 +11,6 @@ pub record Sofar (text rest : List ℕ) (start now : Pattern) (count : ℕ) : Ty
   pub before : LinesTo text seen rest
   pub taken : TakesLines seen start now
   pub counted : count ≡ length seen
-  pub few : count + length rest ≤ length text
 
 before_more : (text : List ℕ) (seen : List (List ℕ)) (rest line left : List ℕ) → LinesTo text seen rest → Begins rest line left → LinesTo text (seen ++ line ∷ []) left
 before_more text [] rest line left same next = (left, subst (λ x. Begins x line left) same next, refl)
@@ -22,11 +21,10 @@ taken_more [] line start now next same more = (next, subst (λ p. TakesLine line
 taken_more (first ∷ seen) line start now next (between, one, others) more = (between, one, taken_more seen line between now next others more)
 
 pub one_more : (text rest : List ℕ) (start now : Pattern) (count : ℕ) → Sofar text rest start now count → (line left : List ℕ) (next : Pattern) →
-    Begins rest line left → TakesLine line now next → length left < length rest → Sofar text left start next (count + 1)
-one_more text rest start now count so_far line left next first more shorter = record {
+    Begins rest line left → TakesLine line now next → Sofar text left start next (count + 1)
+one_more text rest start now count so_far line left next first more = record {
   seen = so_far.seen ++ line ∷ [];
   before = before_more text so_far.seen rest line left so_far.before first;
   taken = taken_more so_far.seen line start now next so_far.taken more;
   counted = omega (arith, so_far.counted, length_push so_far.seen line);
-  few = omega (arith, so_far.few);
 }

@@ -1,5 +1,4 @@
 pub mod Words
-pub mod Places
 pub mod Statements
 pub mod Bytes
 pub mod Messages

@@ -1,5 +1,5 @@
 -- How a text is read, line by line.
-use Rattle.std.specs.Prelude.{◌≡◌, ℕ, ◌+◌, ◌<◌, cond, List, [], ◌∷◌, length, take, ◌==◌}
+use Rattle.std.specs.Prelude.{◌≡◌, ℕ, ◌+◌, ◌<◌, List, [], ◌∷◌, length, take, count_by, ◌==◌}
 use Rattle.std.specs.Str.Lines.{IsFirstLine}
 use Rattle.std.specs.Str.{IsValidUpTo}
 use Rattle.pattern_records.specs.declared.fault.Fault.TheVariants.{NotText}
@@ -19,8 +19,7 @@ LinesTo text (line ∷ lines) rest = (next : List ℕ) × Begins text line next 
 
 -- how many newlines bytes have
 abbrev pub newlines : List ℕ → ℕ
-newlines [] = 0
-newlines (b ∷ bytes) = cond (b == 10) 1 0 + newlines bytes
+newlines bytes = count_by (λ b. b == 10) bytes
 
 -- lines are taken up one after another
 abbrev pub TakesLines : List (List ℕ) → Pattern → Pattern → Type 0

@@ -2,14 +2,14 @@
 ghost use Rattle.std.specs.Prelude.{◌≡◌, IfOk, MatchResult};
 ghost use Rattle.pattern_records.specs.Bytes.{Appended, Holds};
 
-use records::Entry;
+use records::{Entry, Record};
 use std::alloc::{AllocError, Global};
 
 // Puts the record that says an entry after the bytes.
 pub fn append(bytes: &mut Vec<u8>, entry: &Entry) -> Result<(), AllocError>
     ensures { MatchResult result (λ _. Appended bytes.old.items entry.now bytes.new.items) (λ _. bytes.new.items ≡ bytes.old.items) }
 {
-    let record = entry.to_record().to_bytes();
+    let record = Record::from(*entry).to_bytes();
     bytes.extend_from_slice(&record)
 }
 

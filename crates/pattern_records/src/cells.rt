@@ -3,15 +3,15 @@ ghost use Rattle.std.specs.Prelude.{MatchResult};
 ghost use Rattle.records.specs.Periods.{periods_of};
 ghost use Rattle.pattern_records.specs.Cells.{NoCell, Added, NotAdded};
 
-use crate::coordinates::{cell_at, cell_count};
 use crate::fault::Fault;
+use polynomials::{cell_at, cell_count};
 use records::{CellRecord, Entry, PeriodRecord};
 
 // What is wrong where the period has no cell at a position.
 fn no_cell(periods: &PeriodRecord) -> Fault
     ensures { NoCell (periods_of periods.now) result }
 {
-    if cell_count(periods) == 0 {
+    if cell_count(periods.as_slice()) == 0 {
         Fault::EmptyPeriod
     } else {
         Fault::ManyCells
@@ -27,16 +27,14 @@ pub fn add_cells(
 ) -> Result<usize, Fault>
     ensures { MatchResult result (Added (periods_of periods.now) first codes.now entries.old.items entries.new.items) (NotAdded (periods_of periods.now) first codes.now) }
 {
-    let mut position = first;
-    for code in codes {
-        let Some(coordinates) = cell_at(periods, position) else {
+    for (i, code) in codes.iter().enumerate() {
+        let Some(coordinates) = cell_at(periods.as_slice(), first + i) else {
             return Err(no_cell(periods));
         };
         entries.push(Entry::Cell(CellRecord {
             coordinates,
             code: *code,
         }))?;
-        position += 1;
     }
-    Ok(position)
+    Ok(first + codes.len())
 }

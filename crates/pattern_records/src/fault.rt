@@ -1,13 +1,13 @@
 // What can be wrong with a line.
 ghost use Rattle.std.specs.Prelude.{◌≡◌, Some};
 ghost use Rattle.pattern_records.specs.declared.fault.Fault.TheVariants.{Memory};
-ghost use Rattle.pattern_records.specs.Messages.{wants, message};
+ghost use Rattle.pattern_records.specs.Messages.{message};
 
 use crate::keyword::Keyword;
 use std::alloc::{AllocError, AllocFailed};
 use std::fmt;
 
-#[derive(Drop)]
+#[derive(Debug, Drop)]
 pub enum Fault {
     NotText,
     Unknown(String),
@@ -35,21 +35,6 @@ impl<T: Drop> From<AllocFailed<T>> for Fault {
     }
 }
 
-// What a keyword wants after it.
-fn wanted(keyword: Keyword) -> &'static str
-    ensures { result.now ≡ wants keyword }
-{
-    match keyword {
-        Keyword::Modulus => "modulus wants one number",
-        Keyword::Degree => "degree wants one number",
-        Keyword::Lexicographic | Keyword::Graded | Keyword::Weighted => {
-            "order wants lexicographic, graded or weighted with four weights"
-        }
-        Keyword::Period => "period wants one to four numbers",
-        Keyword::Cells => "cells wants one code or more",
-    }
-}
-
 impl fmt::Display for Fault {
     ghost output = { λ e. Some (message e) };
 
@@ -58,7 +43,13 @@ impl fmt::Display for Fault {
             Fault::NotText => f.write_str("not UTF-8 text"),
             Fault::Unknown(word) => write!(f, "unknown word \"{word}\""),
             Fault::NotNumber(word) => write!(f, "{word} is not a number from 0 to 65535"),
-            Fault::Wants(keyword) => f.write_str(wanted(*keyword)),
+            Fault::Wants(Keyword::Modulus) => f.write_str("modulus wants one number"),
+            Fault::Wants(Keyword::Degree) => f.write_str("degree wants one number"),
+            Fault::Wants(Keyword::Lexicographic | Keyword::Graded | Keyword::Weighted) => {
+                f.write_str("order wants lexicographic, graded or weighted with four weights")
+            }
+            Fault::Wants(Keyword::Period) => f.write_str("period wants one to four numbers"),
+            Fault::Wants(Keyword::Cells) => f.write_str("cells wants one code or more"),
             Fault::EarlyCells => f.write_str("cells come after the period"),
             Fault::EmptyPeriod => f.write_str("a period of 0 has no cells"),
             Fault::ManyCells => f.write_str("more cells than the period has"),

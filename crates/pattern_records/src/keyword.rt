@@ -1,9 +1,9 @@
-// The keywords that a line may begin with.
+// The keywords that a line may begin with. A word means one alone and another after order, so neither reading is the one of TryFrom.
 ghost use Rattle.std.specs.Prelude.{◌≡◌, Some, MatchOption, ◌≢◌};
 ghost use Rattle.pattern_records.specs.Words.{alone, after_order};
 ghost use Rattle.pattern_records.specs.declared.keyword.Keyword.{Keyword};
 
-#[derive(Clone, Copy)]
+#[derive(Clone, Copy, PartialEq, Eq, Debug)]
 pub enum Keyword {
     Modulus,
     Degree,

@@ -14,10 +14,10 @@ use std::str::SplitWhitespace;
 fn number(heap: Global, word: &str) -> Result<u16, Fault>
     ensures { MatchResult result (Number word.now) (NoNumber word.now) }
 {
-    match word.parse::<u16>() {
-        Ok(number) => Ok(number),
-        Err(_) => Err(Fault::NotNumber(String::from_str(heap, word)?)),
-    }
+    word.parse::<u16>().try_map_err(|_| {
+        let word = String::from_str(heap, word)?;
+        Ok(Fault::NotNumber(word))
+    })
 }
 
 // The numbers that the words are.
@@ -37,18 +37,13 @@ fn opening(heap: Global, first: &str, words: &mut SplitWhitespace) -> Result<Key
 {
     match first {
         "order" => {
-            let Some(second) = words.next() else {
-                return Err(Fault::Wants(Keyword::Lexicographic));
-            };
-            match Keyword::of_order(second) {
-                Some(keyword) => Ok(keyword),
-                None => Err(Fault::Wants(Keyword::Lexicographic)),
-            }
+            let second = words.next().ok_or(Fault::Wants(Keyword::Lexicographic))?;
+            Keyword::of_order(second).ok_or(Fault::Wants(Keyword::Lexicographic))
         }
-        _ => match Keyword::of_word(first) {
-            Some(keyword) => Ok(keyword),
-            None => Err(Fault::Unknown(String::from_str(heap, first)?)),
-        },
+        _ => Keyword::of_word(first).try_ok_or_else(|| {
+            let word = String::from_str(heap, first)?;
+            Ok(Fault::Unknown(word))
+        }),
     }
 }
 

@@ -3,7 +3,6 @@
 
 mod appending;
 mod cells;
-mod coordinates;
 mod fault;
 mod keyword;
 mod line;

@@ -18,10 +18,7 @@ pub fn stated(keyword: Keyword, numbers: &[u16]) -> Option<Entry>
         (Keyword::Weighted, [a, b, c, d]) => {
             Some(Entry::Order(OrderRecord::Weighted([*a, *b, *c, *d])))
         }
-        (Keyword::Period, periods) => match PeriodRecord::new(periods) {
-            Some(periods) => Some(Entry::Period(periods)),
-            None => None,
-        },
+        (Keyword::Period, periods) => PeriodRecord::try_from(periods).ok().map(Entry::Period),
         _ => None,
     }
 }

@@ -14,9 +14,7 @@ impl Pattern {
     fn take_entry(&mut self, keyword: Keyword, numbers: &[u16]) -> Result<(), Fault>
         ensures { MatchResult result (λ _. TakesEntry keyword numbers.now self.old self.new) (RefusesEntry keyword numbers.now) }
     {
-        let Some(entry) = stated(keyword, numbers) else {
-            return Err(Fault::Wants(keyword));
-        };
+        let entry = stated(keyword, numbers).ok_or(Fault::Wants(keyword))?;
         self.entries.push(entry)?;
         if let Entry::Period(periods) = entry {
             self.periods = Some(periods);
@@ -32,9 +30,7 @@ impl Pattern {
         if codes.is_empty() {
             return Err(Fault::Wants(Keyword::Cells));
         }
-        let Some(periods) = self.periods else {
-            return Err(Fault::EarlyCells);
-        };
+        let periods = self.periods.ok_or(Fault::EarlyCells)?;
         let first = self.cells;
         self.cells = add_cells(&mut self.entries, &periods, first, codes)?;
         Ok(())

@@ -11,7 +11,7 @@ use std::fmt;
 use std::str::from_utf8;
 
 // A line at fault, counted from 1.
-#[derive(Drop)]
+#[derive(Debug, Drop)]
 pub struct LineFault {
     line: usize,
     fault: Fault,
@@ -31,13 +31,7 @@ impl fmt::Display for LineFault {
 fn line_after(bytes: &[u8]) -> usize
     ensures { result ≡ 1 + newlines bytes.now }
 {
-    let mut line = 1;
-    for byte in bytes {
-        if *byte == b'\n' {
-            line += 1;
-        }
-    }
-    line
+    1 + bytes.iter().filter(|byte| **byte == b'\n').count()
 }
 
 // What the lines of a text say.
@@ -45,15 +39,13 @@ fn said(heap: Global, text: &str) -> Result<Pattern, LineFault>
     ensures { MatchResult result (SaysText text.now) (RefusesText text.now) }
 {
     let mut pattern = Pattern::new(heap);
-    let mut read = 0;
-    for line in text.lines() {
+    for (read, line) in text.lines().enumerate() {
         if let Err(fault) = take_line(heap, &mut pattern, line) {
             return Err(LineFault {
                 line: read + 1,
                 fault,
             });
         }
-        read += 1;
     }
     Ok(pattern)
 }

@@ -19,7 +19,7 @@ use Rattle.records.specs.declared.entry.FieldRecord.TheVariants.{Modulus, Degree
 use Rattle.records.specs.declared.entry.OrderRecord.{OrderRecord}
 use Rattle.records.specs.declared.entry.OrderRecord.TheVariants as orders
 use Rattle.records.specs.Periods.{periods_of}
-use Rattle.patterns.specs.declared.kind.Singles.{Singles}
+use Rattle.patterns.specs.declared.singles.Singles.{Singles}
 use Rattle.patterns.specs.declared.plan.FieldKind.{FieldKind}
 use Rattle.patterns.specs.declared.plan.FieldKind.TheVariants.{Residues, Binary}
 use Rattle.patterns.specs.declared.plan.OrderKind.{OrderKind}
@@ -67,8 +67,8 @@ order_of (kinds.Weighted weights) = weighted weights.weights lexicographic
 
 -- the field and the order are admitted
 pub record Admits (s : Singles) : Type 0 where
-  pub field : FieldListed s.«field»
-  pub order : WeightsAdmitted s.order
+  pub field : FieldListed s.«field».value
+  pub order : WeightsAdmitted s.order.value
 
 -- the periods are admitted, and the width is the number of their cells, 1 to 64
 pub record WidthOf (ns : List ℕ) (width : ℕ) : Type 0 where
@@ -80,10 +80,10 @@ pub record WidthOf (ns : List ℕ) (width : ℕ) : Type 0 where
 -- the plan is what the records mean, and none of them is at fault
 pub record Planned (s : Singles) (plan : Plan) : Type 0 where
   pub admits : Admits s
-  pub width : WidthOf (periods_of s.period) plan.width
-  pub field : field_of plan.«field» ≡ field_meant s.«field»
-  pub order : order_of plan.order ≡ order_meant s.order
-  pub periods : plan.periods ≡ s.period
+  pub width : WidthOf (periods_of s.period.value) plan.width
+  pub field : field_of plan.«field» ≡ field_meant s.«field».value
+  pub order : order_of plan.order ≡ order_meant s.order.value
+  pub periods : plan.periods ≡ s.period.value
 
 -- refused by the modulus or degree, then by a weight, then by a period; each at its record
 abbrev pub Unplanned : Singles → ℕ → FileFault → Type 0
@@ -92,12 +92,12 @@ Unplanned s place Content = ⊥
 Unplanned s place Single = ⊥
 Unplanned s place Cell = ⊥
 Unplanned s place (Subject Variables) = ⊥
-Unplanned s place (Subject (Period axis)) = Admits s × FirstAt (PeriodFault (periods_of s.period)) axis × (place ≡ s.period_at)
+Unplanned s place (Subject (Period axis)) = Admits s × FirstAt (PeriodFault (periods_of s.period.value)) axis × (place ≡ s.period.place)
 Unplanned s place (Subject Points) = ⊥
 Unplanned s place (Subject Count) = ⊥
 Unplanned s place (Subject (Code cell)) = ⊥
-Unplanned s place (Subject (Arithmetic Unlisted)) = (FieldListed s.«field» → ⊥) × (place ≡ s.field_at)
-Unplanned s place (Subject (Arithmetic (Weight k))) = FieldListed s.«field» × WeightFault s.order k × (place ≡ s.order_at)
+Unplanned s place (Subject (Arithmetic Unlisted)) = (FieldListed s.«field».value → ⊥) × (place ≡ s.«field».place)
+Unplanned s place (Subject (Arithmetic (Weight k))) = FieldListed s.«field».value × WeightFault s.order.value k × (place ≡ s.order.place)
 
 abbrev pub Plans : Singles → Result Plan RecordFault → Type 0
 Plans s (Ok plan) = Planned s plan

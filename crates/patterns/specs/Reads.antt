@@ -8,7 +8,7 @@ use Rattle.monomials.specs.Orders.{Order}
 use Rattle.subjects.specs.ArrayGrounds.{PeriodsAdmitted}
 use Rattle.records.specs.declared.entry.Entry.{Entry}
 use Rattle.records.specs.Periods.{periods_of}
-use Rattle.patterns.specs.declared.kind.Singles.{Singles}
+use Rattle.patterns.specs.declared.singles.Singles.{Singles}
 use Rattle.patterns.specs.declared.plan.Plan.{Plan}
 use Rattle.patterns.specs.Files.{FileSays}
 use Rattle.patterns.specs.Decodings.{Undecoded}
@@ -33,16 +33,16 @@ pub record Sorted (bytes : List ℕ) (es : List Entry) (s : Singles) : Type 0 wh
 pub record LaidOut (bytes : List ℕ) (es : List Entry) (s : Singles) : Type 0 where
   pub sorted : Sorted bytes es s
   pub admits : Admits s
-  pub periods : PeriodsAdmitted (periods_of s.period)
+  pub periods : PeriodsAdmitted (periods_of s.period.value)
 
 -- the file means the pattern
 pub record FileMeans (bytes : List ℕ) (p : Pattern) : Type 0 where
   pub entries : List Entry
   pub singles : Singles
   pub laid_out : LaidOut bytes entries singles
-  pub field : p.field ≡ field_meant singles.«field»
-  pub order : p.order ≡ order_meant singles.order
-  pub periods : p.periods ≡ periods_of singles.period
+  pub field : p.field ≡ field_meant singles.«field».value
+  pub order : p.order ≡ order_meant singles.order.value
+  pub periods : p.periods ≡ periods_of singles.period.value
   pub cells : Filled p.field.order p.periods entries p.cells
 
 -- the first ground against a file, at a place: its length, or a record that says nothing; a record that comes twice or is missing;
@@ -51,7 +51,7 @@ pub data Refused (bytes : List ℕ) (place : ℕ) (fault : FileFault) : Type 0 w
   undecoded : Undecoded bytes place fault → Refused bytes place fault
   unsorted : (es : List Entry) → FileSays bytes es → fault ≡ Single → SingleFault es place → Refused bytes place fault
   unplanned : (es : List Entry) (s : Singles) → Sorted bytes es s → Unplanned s place fault → Refused bytes place fault
-  unfilled : (es : List Entry) (s : Singles) → LaidOut bytes es s → Unfilled (field_meant s.«field»).order (periods_of s.period) es place fault →
+  unfilled : (es : List Entry) (s : Singles) → LaidOut bytes es s → Unfilled (field_meant s.«field».value).order (periods_of s.period.value) es place fault →
       Refused bytes place fault
 
 -- the pattern of a plan with lent codes, of which the first are its cells

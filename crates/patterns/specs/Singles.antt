@@ -4,18 +4,12 @@ use Rattle.faults.specs.declared.file.FileFault.TheVariants.{Single}
 use Rattle.faults.specs.declared.file.RecordFault.{RecordFault}
 use Rattle.faults.specs.Places.{Faulty, NoneAt, FirstAt}
 use Rattle.records.specs.declared.entry.Entry.{Entry}
-use Rattle.records.specs.declared.entry.Entry.TheVariants.{Field, Order, Period, Cell}
-use Rattle.patterns.specs.declared.kind.Kind.{Kind}
-use Rattle.patterns.specs.declared.kind.Kind.TheVariants as kinds
-use Rattle.patterns.specs.declared.kind.Singles.{Singles}
+use Rattle.records.specs.declared.entry.Entry.TheVariants.{Field, Order, Period}
+use Rattle.records.specs.declared.kind.Kind.{Kind}
+use Rattle.records.specs.declared.kind.Kind.TheVariants as kinds
+use Rattle.records.specs.Kinds.{kind_of}
+use Rattle.patterns.specs.declared.singles.Singles.{Singles}
 use Rattle.patterns.specs.Files.{blank, entry}
-
--- the kind of an entry
-abbrev pub kind_of : Entry → Kind
-kind_of (Field field) = kinds.Field
-kind_of (Order order) = kinds.Order
-kind_of (Period period) = kinds.Period
-kind_of (Cell cell) = kinds.Cell
 
 -- the record at a place is of the kind
 abbrev pub OfKind : List Entry → Kind → ℕ → Type 0
@@ -41,9 +35,9 @@ Missing es = NoneAt (OfKind es kinds.Field) ⊎ NoneAt (OfKind es kinds.Order) �
 -- the one field, order and period record, where none of them repeats
 pub record Singled (es : List Entry) (s : Singles) : Type 0 where
   pub once : NoneAt (Repeats es)
-  pub field : StandsAt es s.field_at (Field s.«field»)
-  pub order : StandsAt es s.order_at (Order s.order)
-  pub period : StandsAt es s.period_at (Period s.period)
+  pub field : StandsAt es s.«field».place (Field s.«field».value)
+  pub order : StandsAt es s.order.place (Order s.order.value)
+  pub period : StandsAt es s.period.place (Period s.period.value)
 
 -- refused at the first record that is the second of its kind, or else, where one is missing, at the number of records
 abbrev pub SingleFault : List Entry → ℕ → Type 0

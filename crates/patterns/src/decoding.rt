@@ -1,13 +1,15 @@
 // The entries of a file.
-ghost use Rattle.std.specs.Prelude.{◌≡◌, ◌+◌, ◌*◌, ◌≤◌, length, MatchOption};
+ghost use Rattle.std.specs.Prelude.{◌≡◌, length, MatchResult};
+ghost use Rattle.faults.specs.declared.file.FileFault.TheVariants.{Content};
 ghost use Rattle.records.specs.Format.{Says};
+ghost use Rattle.records.specs.Layout.{record_of};
 ghost use Rattle.records.specs.declared.entry.Entry.{Entry};
-ghost use Rattle.patterns.specs.Files.{record_at};
-ghost use Rattle.patterns.specs.Decodings.{Decoded, entries_of};
+ghost use Rattle.patterns.specs.Decodings.{Decoded};
 
-use crate::entries::Entries;
+use crate::refusing::fault_at;
+use arrayvec::ArrayVec;
 use faults::{FileFault, RecordFault};
-use records::{Entry, OrderRecord, Record};
+use records::{Entry, Record};
 
 // How many bytes a record has.
 const RECORD_BYTES: usize = 12;
@@ -15,45 +17,27 @@ const RECORD_BYTES: usize = 12;
 // The most records of a file.
 const MOST_RECORDS: usize = 67;
 
-// What the record of a number says.
-fn entry_at(bytes: &[u8], number: usize) -> Option<Entry>
-    requires { 12 * number + 12 ≤ length bytes.now }
-    ensures { MatchOption result ((e : Entry) → Says (record_at bytes.now number) e → ⊥) (Says (record_at bytes.now number)) }
+// What the 12 bytes of the record of a number say; refused where they say nothing.
+fn entry_of(number: usize, bytes: &[u8]) -> Result<Entry, RecordFault>
+    requires { length bytes.now ≡ 12 }
+    ensures { MatchResult result (Says (record_of bytes.now)) (λ fault. (fault ≡ record { «record» = number; fault = Content }) × ((e : Entry) → Says (record_of bytes.now) e → ⊥)) }
 {
-    let start = RECORD_BYTES * number;
-    let held = Record::from_bytes(&bytes[start..start + RECORD_BYTES])?;
-    Entry::from_record(&held)
+    let nothing = fault_at(number, FileFault::Content);
+    let held = Record::try_from(bytes).map_err(|_| nothing)?;
+    Entry::try_from(held).map_err(|_| nothing)
 }
 
 // The entries of the file, where it is whole records, at most 67, and each says something.
-pub(crate) fn decode(bytes: &[u8]) -> Result<Entries, RecordFault>
+pub(crate) fn decode(bytes: &[u8]) -> Result<ArrayVec<Entry, MOST_RECORDS>, RecordFault>
     ensures { Decoded bytes.now result }
 {
-    let count = bytes.len() / RECORD_BYTES;
-    if bytes.len() % RECORD_BYTES != 0 || count > MOST_RECORDS {
-        return Err(RecordFault {
-            record: 0,
-            fault: FileFault::Length,
-        });
+    let (records, rest) = bytes.as_chunks::<RECORD_BYTES>();
+    if !rest.is_empty() || records.len() > MOST_RECORDS {
+        return Err(fault_at(0, FileFault::Length));
     }
-    let mut table = [Entry::Order(OrderRecord::Lexicographic); MOST_RECORDS];
-    for number in 0..count {
-        let Some(entry) = entry_at(bytes, number) else {
-            return Err(RecordFault {
-                record: number,
-                fault: FileFault::Content,
-            });
-        };
-        table[number] = entry;
+    let mut entries = ArrayVec::new();
+    for (number, bytes) in records.iter().enumerate() {
+        entries.push(entry_of(number, bytes)?);
     }
-    Ok(Entries { count, table })
-}
-
-impl Entries {
-    // The entries, in their order.
-    pub(crate) fn as_slice(&self) -> &[Entry]
-        ensures { result.now ≡ entries_of self.now }
-    {
-        &self.table[0..self.count]
-    }
+    Ok(entries)
 }

@@ -4,13 +4,13 @@
 mod cells;
 mod codes;
 mod decoding;
-mod entries;
-mod geometry;
-mod kind;
+mod order_kind;
 mod plan;
 mod planning;
 mod reading;
+mod refusing;
 mod singles;
+mod singling;
 
 pub use plan::{FieldKind, OrderKind, Plan};
 pub use reading::read;

@@ -3,13 +3,14 @@ use fields::{Binary, Residue};
 use monomials::Weights;
 use records::PeriodRecord;
 
+// The field of a plan: residues by a modulus, or a binary field.
 #[derive(Clone, Copy)]
 pub enum FieldKind {
     Residues(Residue),
     Binary(Binary),
 }
 
-// The weights stand over the lexicographic order.
+// The order of a plan; the weights stand over the lexicographic order.
 #[derive(Clone, Copy)]
 pub enum OrderKind {
     Lexicographic,
@@ -17,7 +18,7 @@ pub enum OrderKind {
     Weighted(Weights),
 }
 
-// The width is the number of cells of the period.
+// What a file means beside its cells; the width is the number of cells of the period.
 #[derive(Clone, Copy)]
 pub struct Plan {
     pub field: FieldKind,

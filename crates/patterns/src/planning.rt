@@ -1,16 +1,16 @@
 // The field, the order and the periods that the records mean; a fault from below stays whole, and the record is put beside it.
-ghost use Rattle.std.specs.Prelude.{◌≡◌, ℕ, Ok, Err, MatchResult};
+ghost use Rattle.std.specs.Prelude.{◌≡◌, ℕ, MatchResult};
 ghost use Rattle.faults.specs.declared.arithmetic.ArithmeticFault.TheVariants.{Unlisted, Weight};
-ghost use Rattle.faults.specs.declared.file.FileFault.TheVariants.{Subject};
 ghost use Rattle.faults.specs.declared.subject.SubjectFault.TheVariants.{Arithmetic, Period};
 ghost use Rattle.faults.specs.Places.{FirstAt};
 ghost use Rattle.records.specs.Periods.{periods_of};
 ghost use Rattle.subjects.specs.ArrayGrounds.{PeriodFault};
 ghost use Rattle.patterns.specs.Plans.{field_meant, field_of, FieldListed, order_meant, order_of, WeightsAdmitted, WeightFault, WidthOf, Plans};
 
-use crate::kind::Singles;
 use crate::plan::{FieldKind, OrderKind, Plan};
-use faults::{FileFault, RecordFault, SubjectFault};
+use crate::refusing::of_record;
+use crate::singles::Singles;
+use faults::{RecordFault, SubjectFault};
 use fields::{Binary, Residue};
 use monomials::Weights;
 use records::{FieldRecord, OrderRecord, PeriodRecord};
@@ -44,27 +44,14 @@ fn cells(held: &PeriodRecord) -> Result<usize, SubjectFault>
     count_cells(held.as_slice())
 }
 
-// What is answered of a record; a fault with the record beside it.
-pub(crate) fn of_record<T>(place: usize, answer: Result<T, SubjectFault>) -> Result<T, RecordFault>
-    ensures { MatchResult answer (λ value. result ≡ Ok value) (λ e. result ≡ Err (record { «record» = place; fault = Subject e })) }
-{
-    match answer {
-        Ok(value) => Ok(value),
-        Err(fault) => Err(RecordFault {
-            record: place,
-            fault: FileFault::from(fault),
-        }),
-    }
-}
-
 // The field, then the order, then the periods; the first refusal ends it.
 pub(crate) fn plan(singles: &Singles) -> Result<Plan, RecordFault>
     ensures { Plans singles.now result }
 {
-    let field = of_record(singles.field_at, field(singles.field))?;
-    let order = of_record(singles.order_at, order(singles.order))?;
-    let periods = singles.period;
-    let width = of_record(singles.period_at, cells(&periods))?;
+    let field = of_record(singles.field.place, field(singles.field.value))?;
+    let order = of_record(singles.order.place, order(singles.order.value))?;
+    let periods = singles.period.value;
+    let width = of_record(singles.period.place, cells(&periods))?;
     Ok(Plan {
         field,
         order,

@@ -9,6 +9,7 @@ use Rattle.records.specs.declared.entry.CellRecord.{CellRecord}
 use Rattle.records.specs.declared.entry.Entry.{Entry}
 use Rattle.records.specs.declared.entry.Entry.TheVariants.{Field, Order, Period, Cell}
 use Rattle.records.specs.declared.period.PeriodRecord.{PeriodRecord}
+use Rattle.records.specs.declared.period.PeriodRecord.TheVariants.{One, Two, Three, Four}
 
 -- the five numbers of a record
 pub record NumbersAre (ns : List ℕ) (n0 n1 n2 n3 n4 : ℕ) : Type 0 where
@@ -31,8 +32,10 @@ SaysOrder subkind ns (Weighted ws) = (subkind ≡ 2) × NumbersAre ns (slice_ind
 
 -- a period: the subkind is how many there are, 1 to 4, and so many periods follow
 abbrev pub SaysPeriod : ℕ → List ℕ → PeriodRecord → Type 0
-SaysPeriod subkind ns p =
-    (subkind ≡ p.count) × NumbersAre ns (slice_index p.periods 0) (slice_index p.periods 1) (slice_index p.periods 2) (slice_index p.periods 3) 0
+SaysPeriod subkind ns (One ps) = (subkind ≡ 1) × NumbersAre ns (slice_index ps 0) 0 0 0 0
+SaysPeriod subkind ns (Two ps) = (subkind ≡ 2) × NumbersAre ns (slice_index ps 0) (slice_index ps 1) 0 0 0
+SaysPeriod subkind ns (Three ps) = (subkind ≡ 3) × NumbersAre ns (slice_index ps 0) (slice_index ps 1) (slice_index ps 2) 0 0
+SaysPeriod subkind ns (Four ps) = (subkind ≡ 4) × NumbersAre ns (slice_index ps 0) (slice_index ps 1) (slice_index ps 2) (slice_index ps 3) 0
 
 -- a cell: subkind 0, four coordinates, the code
 abbrev pub SaysCell : ℕ → List ℕ → CellRecord → Type 0

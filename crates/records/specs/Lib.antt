@@ -1,3 +1,4 @@
 pub mod Layout
 pub mod Periods
 pub mod Format
+pub mod Kinds

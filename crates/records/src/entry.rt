@@ -3,14 +3,14 @@ use crate::period::PeriodRecord;
 use monomials::Monomial;
 
 // The field: the residues by a modulus, or the binary field of a degree.
-#[derive(Clone, Copy)]
+#[derive(Clone, Copy, PartialEq, Eq, Debug)]
 pub enum FieldRecord {
     Modulus(u16),
     Degree(u16),
 }
 
 // The order: lexicographic, graded, or weighted over the lexicographic order with four weights.
-#[derive(Clone, Copy)]
+#[derive(Clone, Copy, PartialEq, Eq, Debug)]
 pub enum OrderRecord {
     Lexicographic,
     Graded,
@@ -18,13 +18,14 @@ pub enum OrderRecord {
 }
 
 // A cell: its coordinates, as exponents, and its code.
-#[derive(Clone, Copy)]
+#[derive(Clone, Copy, PartialEq, Eq, Debug)]
 pub struct CellRecord {
     pub coordinates: Monomial,
     pub code: u16,
 }
 
-#[derive(Clone, Copy)]
+// An entry: what one record says.
+#[derive(Clone, Copy, PartialEq, Eq, Debug)]
 pub enum Entry {
     Field(FieldRecord),
     Order(OrderRecord),

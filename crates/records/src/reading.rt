@@ -1,5 +1,5 @@
 // What a record says: nothing where its kind or subkind is not listed, or a number that it does not use is not 0.
-ghost use Rattle.std.specs.Option.{MatchOption};
+ghost use Rattle.std.specs.Prelude.{MatchOption, MatchResult};
 ghost use Rattle.records.specs.Format.{SaysField, SaysOrder, SaysPeriod, SaysCell, Says};
 ghost use Rattle.records.specs.declared.entry.Entry.{Entry};
 ghost use Rattle.records.specs.declared.entry.FieldRecord.{FieldRecord};
@@ -12,20 +12,24 @@ use crate::period::PeriodRecord;
 use crate::record::Record;
 use monomials::Monomial;
 
-fn field_record(subkind: u8, numbers: [u16; 5]) -> Option<FieldRecord>
-    ensures { MatchOption result ((f : FieldRecord) → SaysField subkind numbers f → ⊥) (SaysField subkind numbers) }
+// The field that a record of that kind says.
+fn field_record(held: Record) -> Option<FieldRecord>
+    ensures { MatchOption result ((f : FieldRecord) → SaysField held.subkind held.numbers f → ⊥) (SaysField held.subkind held.numbers) }
 {
-    match (subkind, numbers) {
+    let numbers = held.numbers;
+    match (held.subkind, numbers) {
         (0, [modulus, 0, 0, 0, 0]) => Some(FieldRecord::Modulus(modulus)),
         (1, [degree, 0, 0, 0, 0]) => Some(FieldRecord::Degree(degree)),
         _ => None,
     }
 }
 
-fn order_record(subkind: u8, numbers: [u16; 5]) -> Option<OrderRecord>
-    ensures { MatchOption result ((o : OrderRecord) → SaysOrder subkind numbers o → ⊥) (SaysOrder subkind numbers) }
+// The order that a record of that kind says.
+fn order_record(held: Record) -> Option<OrderRecord>
+    ensures { MatchOption result ((o : OrderRecord) → SaysOrder held.subkind held.numbers o → ⊥) (SaysOrder held.subkind held.numbers) }
 {
-    match (subkind, numbers) {
+    let numbers = held.numbers;
+    match (held.subkind, numbers) {
         (0, [0, 0, 0, 0, 0]) => Some(OrderRecord::Lexicographic),
         (1, [0, 0, 0, 0, 0]) => Some(OrderRecord::Graded),
         (2, [a, b, c, d, 0]) => Some(OrderRecord::Weighted([a, b, c, d])),
@@ -33,23 +37,26 @@ fn order_record(subkind: u8, numbers: [u16; 5]) -> Option<OrderRecord>
     }
 }
 
-fn period_record(subkind: u8, numbers: [u16; 5]) -> Option<PeriodRecord>
-    ensures { MatchOption result ((p : PeriodRecord) → SaysPeriod subkind numbers p → ⊥) (SaysPeriod subkind numbers) }
+// The periods that a record of that kind says.
+fn period_record(held: Record) -> Option<PeriodRecord>
+    ensures { MatchOption result ((p : PeriodRecord) → SaysPeriod held.subkind held.numbers p → ⊥) (SaysPeriod held.subkind held.numbers) }
 {
-    let (count, periods) = match (subkind, numbers) {
-        (1, [a, 0, 0, 0, 0]) => (1, [a, 0, 0, 0]),
-        (2, [a, b, 0, 0, 0]) => (2, [a, b, 0, 0]),
-        (3, [a, b, c, 0, 0]) => (3, [a, b, c, 0]),
-        (4, [a, b, c, d, 0]) => (4, [a, b, c, d]),
-        _ => return None,
-    };
-    Some(PeriodRecord { count, periods })
+    let numbers = held.numbers;
+    match (held.subkind, numbers) {
+        (1, [a, 0, 0, 0, 0]) => Some(PeriodRecord::One([a])),
+        (2, [a, b, 0, 0, 0]) => Some(PeriodRecord::Two([a, b])),
+        (3, [a, b, c, 0, 0]) => Some(PeriodRecord::Three([a, b, c])),
+        (4, [a, b, c, d, 0]) => Some(PeriodRecord::Four([a, b, c, d])),
+        _ => None,
+    }
 }
 
-fn cell_record(subkind: u8, numbers: [u16; 5]) -> Option<CellRecord>
-    ensures { MatchOption result ((c : CellRecord) → SaysCell subkind numbers c → ⊥) (SaysCell subkind numbers) }
+// The cell that a record of that kind says.
+fn cell_record(held: Record) -> Option<CellRecord>
+    ensures { MatchOption result ((c : CellRecord) → SaysCell held.subkind held.numbers c → ⊥) (SaysCell held.subkind held.numbers) }
 {
-    match (subkind, numbers) {
+    let numbers = held.numbers;
+    match (held.subkind, numbers) {
         (0, [a, b, c, d, code]) => Some(CellRecord {
             coordinates: Monomial {
                 exponents: [a, b, c, d],
@@ -60,17 +67,23 @@ fn cell_record(subkind: u8, numbers: [u16; 5]) -> Option<CellRecord>
     }
 }
 
-impl Entry {
-    // What the record says.
-    pub fn from_record(held: &Record) -> Option<Entry>
-        ensures { MatchOption result ((e : Entry) → Says held.now e → ⊥) (Says held.now) }
-    {
-        match held.kind {
-            1 => Some(Entry::Field(field_record(held.subkind, held.numbers)?)),
-            2 => Some(Entry::Order(order_record(held.subkind, held.numbers)?)),
-            3 => Some(Entry::Period(period_record(held.subkind, held.numbers)?)),
-            4 => Some(Entry::Cell(cell_record(held.subkind, held.numbers)?)),
+// The record says nothing.
+#[derive(Clone, Copy, PartialEq, Eq, Debug)]
+pub struct SaysNothing;
+
+impl TryFrom<Record> for Entry {
+    type Error = SaysNothing;
+
+    ghost try_from_gives = { λ held r. MatchResult r (Says held) (λ _. (e : Entry) → Says held e → ⊥) };
+
+    fn try_from(held: Record) -> Result<Entry, SaysNothing> {
+        let said = match held.kind {
+            1 => field_record(held).map(Entry::Field),
+            2 => order_record(held).map(Entry::Order),
+            3 => period_record(held).map(Entry::Period),
+            4 => cell_record(held).map(Entry::Cell),
             _ => None,
-        }
+        };
+        said.ok_or(SaysNothing)
     }
 }

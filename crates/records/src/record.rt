@@ -1,78 +1,62 @@
 // A record as 12 bytes: its kind, its subkind, and five numbers of 16 bits, low byte first.
-ghost use Rattle.std.specs.Prelude.{◌≡◌, ◌+◌, ◌/◌, ◌%◌, ◌<◌, length, MatchOption, ◌≢◌};
-ghost use Rattle.records.specs.Layout.{number_at, record_of};
+ghost use Rattle.std.specs.Prelude.{◌≡◌, length, MatchResult, ◌≢◌};
+ghost use Rattle.records.specs.Layout.{record_of};
 
-#[derive(Clone, Copy)]
+use std::array;
+
+// A record, its bytes read as numbers.
+#[derive(Clone, Copy, PartialEq, Eq, Debug)]
 pub struct Record {
     pub kind: u8,
     pub subkind: u8,
     pub numbers: [u16; 5],
 }
 
-// The number of 16 bits that begins at a place, low byte first.
-fn number_at(bytes: &[u8], place: usize) -> u16
-    requires { place + 1 < length bytes.now }
-    ensures { result ≡ number_at bytes.now place }
-{
-    u16::from(bytes[place]) + 256 * u16::from(bytes[place + 1])
-}
+// The bytes are not 12.
+#[derive(Clone, Copy, PartialEq, Eq, Debug)]
+pub struct NotTwelveBytes;
 
-// The low byte of a number.
-fn low(number: u16) -> u8
-    ensures { result ≡ number % 256 }
-{
-    (number % 256) as u8
-}
+impl TryFrom<&[u8]> for Record {
+    type Error = NotTwelveBytes;
 
-// The high byte of a number.
-fn high(number: u16) -> u8
-    ensures { result ≡ number / 256 }
-{
-    (number / 256) as u8
+    ghost try_from_gives = { λ bytes r. MatchResult r (λ held. (length bytes.now ≡ 12) × (held ≡ record_of bytes.now)) (λ _. length bytes.now ≢ 12) };
+
+    fn try_from(bytes: &[u8]) -> Result<Record, NotTwelveBytes> {
+        match bytes {
+            [kind, subkind, rest @ ..] if rest.len() == 10 => Ok(Record {
+                kind: *kind,
+                subkind: *subkind,
+                numbers: array::from_fn(|i| u16::from_le_bytes([rest[2 * i], rest[2 * i + 1]])),
+            }),
+            _ => Err(NotTwelveBytes),
+        }
+    }
 }
 
 impl Record {
-    // The record that 12 bytes hold; none where there are fewer or more.
-    pub fn from_bytes(bytes: &[u8]) -> Option<Record>
-        ensures { MatchOption result (length bytes.now ≢ 12) (λ held. (length bytes.now ≡ 12) × (held ≡ record_of bytes.now)) }
-    {
-        let [kind, subkind, rest @ ..] = bytes else {
-            return None;
-        };
-        if rest.len() != 10 {
-            return None;
-        }
-        Some(Record {
-            kind: *kind,
-            subkind: *subkind,
-            numbers: [
-                number_at(rest, 0),
-                number_at(rest, 2),
-                number_at(rest, 4),
-                number_at(rest, 6),
-                number_at(rest, 8),
-            ],
-        })
-    }
-
-    // The 12 bytes that hold the record.
+    // The 12 bytes that hold the record; named as `to_le_bytes` of Rust's numbers is.
     pub fn to_bytes(&self) -> [u8; 12]
         ensures { record_of result ≡ self.now }
     {
         let [a, b, c, d, e] = self.numbers;
+        let [a0, a1] = a.to_le_bytes();
+        let [b0, b1] = b.to_le_bytes();
+        let [c0, c1] = c.to_le_bytes();
+        let [d0, d1] = d.to_le_bytes();
+        let [e0, e1] = e.to_le_bytes();
         [
             self.kind,
             self.subkind,
-            low(a),
-            high(a),
-            low(b),
-            high(b),
-            low(c),
-            high(c),
-            low(d),
-            high(d),
-            low(e),
-            high(e),
+            a0,
+            a1,
+            b0,
+            b1,
+            c0,
+            c1,
+            d0,
+            d1,
+            e0,
+            e1,
         ]
     }
 }

@@ -5,6 +5,7 @@ use crate::entry::{CellRecord, Entry, FieldRecord, OrderRecord};
 use crate::period::PeriodRecord;
 use crate::record::Record;
 
+// The subkind and the numbers that say a field.
 fn say_field(field: FieldRecord) -> (u8, [u16; 5])
     ensures { SaysField result.0 result.1 field }
 {
@@ -14,6 +15,7 @@ fn say_field(field: FieldRecord) -> (u8, [u16; 5])
     }
 }
 
+// The subkind and the numbers that say an order.
 fn say_order(order: OrderRecord) -> (u8, [u16; 5])
     ensures { SaysOrder result.0 result.1 order }
 {
@@ -27,13 +29,19 @@ fn say_order(order: OrderRecord) -> (u8, [u16; 5])
     }
 }
 
+// The subkind and the numbers that say periods.
 fn say_period(period: PeriodRecord) -> (u8, [u16; 5])
     ensures { SaysPeriod result.0 result.1 period }
 {
-    let [a, b, c, d] = period.periods;
-    (period.count as u8, [a, b, c, d, 0])
+    match period {
+        PeriodRecord::One(p) => (1, [p[0], 0, 0, 0, 0]),
+        PeriodRecord::Two(p) => (2, [p[0], p[1], 0, 0, 0]),
+        PeriodRecord::Three(p) => (3, [p[0], p[1], p[2], 0, 0]),
+        PeriodRecord::Four(p) => (4, [p[0], p[1], p[2], p[3], 0]),
+    }
 }
 
+// The subkind and the numbers that say a cell.
 fn say_cell(cell: CellRecord) -> (u8, [u16; 5])
     ensures { SaysCell result.0 result.1 cell }
 {
@@ -41,12 +49,11 @@ fn say_cell(cell: CellRecord) -> (u8, [u16; 5])
     (0, [a, b, c, d, cell.code])
 }
 
-impl Entry {
-    // The record that says this.
-    pub fn to_record(&self) -> Record
-        ensures { Says result self.now }
-    {
-        let (kind, (subkind, numbers)) = match *self {
+impl From<Entry> for Record {
+    ghost from_gives = { λ said r. Says r said };
+
+    fn from(said: Entry) -> Record {
+        let (kind, (subkind, numbers)) = match said {
             Entry::Field(field) => (1, say_field(field)),
             Entry::Order(order) => (2, say_order(order)),
             Entry::Period(period) => (3, say_period(period)),

@@ -1,20 +1,10 @@
-use Rattle.std.proofs.Common.{vec_items, refl, subst}
-use mathlib.Core.Path.{subst⁻¹}
+use Rattle.std.proofs.Common.{vec_items}
 use Rattle.std.specs.Str.Iter.{split_whitespace_rest}
-use Rattle.pattern_records.specs.Reading.{ReadsTo, Reads}
 use Rattle.pattern_records.proofs.Numbers.{one_more}
 use Rattle.pattern_records.proofs.line.numbers.Goals as goal
-
-pub loop-word-init : goal.loop-word-init
-loop-word-init c = let text = split_whitespace_rest c.into_iter-word-iterator.result in subst⁻¹ (λ x. ReadsTo text x text) c.new-numbers.ensures.items refl
 
 pub loop-word-preserved : goal.loop-word-preserved
 loop-word-preserved c =
     one_more (split_whitespace_rest c.into_iter-word-iterator.result) (vec_items c.loop-word.numbers) (split_whitespace_rest c.loop-word.word-iterator)
     c.in-Some.word.now (split_whitespace_rest c.next.new.self) c.in_ok-number.field-0 (vec_items c.push.new.self)
     c.loop-word.invariant c.in-Some.ensures.steps c.in_ok-number.ensures c.in_ok-push.ensures.items
-
-pub returns : goal.returns
-returns c =
-    subst (λ x. Reads (split_whitespace_rest x) (vec_items c.loop-word.numbers)) c.into_iter-word-iterator.ensures.into_iter_gives
-    (split_whitespace_rest c.loop-word.word-iterator, c.loop-word.invariant, c.in-None.ensures.steps.1)
