@@ -12,7 +12,7 @@ pub struct Border<'a, F> {
     pub field: &'a F,
     pub variables: usize,
     pub lines: &'a [Line],
-    // the exponents of each stair
+    // the exponents of each stair; a monomial has no default, which an element of the vector needs
     pub stairs: ArrayVec<[u16; 4], 64>,
     ghost four: { variables ≤ 4 },
     ghost few: { number_of_stairs lines.now ≤ 64 },
