@@ -1,9 +1,11 @@
+pub mod FromFn
+pub mod Sums
+pub mod Listed
+pub mod Ready
 pub mod Facts
 pub mod Giving
 pub mod Early
 pub mod Filling
-pub mod Loops
-pub mod Listed
 pub mod Passing
 pub mod Walking
 pub mod Refilled

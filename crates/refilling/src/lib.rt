@@ -1,13 +1,14 @@
 // Refill: the code of the continued array at a monomial, from the lines alone.
 #![tactic(auto)]
 
+mod border;
 mod entry;
 mod factor;
 mod fill;
-mod listing;
 mod lookup;
+mod place;
+mod product;
 mod refill;
-mod stairs;
 mod table;
 mod walk;
 

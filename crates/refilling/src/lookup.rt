@@ -1,50 +1,31 @@
-// Where a product by a variable stands among stairs and among lines.
-ghost use Rattle.std.specs.Prelude.{◌≡◌, ℕ, ◌<◌, ◌≤◌, false, length, Decides, MatchOption};
+// Where a product by a variable stands among the stairs and among the lines.
+ghost use Rattle.std.specs.Prelude.{◌≡◌, ℕ, ◌<◌, false, length, MatchOption};
 ghost use Rattle.monomials.specs.Monomials.{mono};
 ghost use Rattle.rows.specs.Lines.{monomial_of, line as line_at, is_stair};
-ghost use Rattle.refilling.specs.Borders.{IsProduct};
-ghost use Rattle.refilling.specs.Tables.{listed_at};
+ghost use Rattle.refilling.specs.Borders.{IsProduct, stairs as number_of_stairs, stair_at};
 
-use crate::stairs::Stairs;
-use monomials::Monomial;
+use crate::border::Border;
+use crate::product::is_product;
+use fields::Field;
 use rows::{Line, Verdict};
 
-// Whether one monomial is the product of another by a variable; no product is formed, so none overflows.
-pub(crate) fn is_product(factor: &Monomial, variable: usize, product: &Monomial) -> bool
-    ensures { Decides result (IsProduct (mono factor.now.exponents) variable (mono product.now.exponents)) }
-{
-    for place in 0..4 {
-        let step = if place == variable { 1 } else { 0 };
-        if u32::from(factor.exponents[place]) + step != u32::from(product.exponents[place]) {
-            return false;
-        }
+impl<'a, F: Field> Border<'a, F> {
+    // The number of the first stair that is the product.
+    pub(crate) fn find_stair(&self, factor: &[u16; 4], variable: usize) -> Option<usize>
+        ensures { MatchOption result ((i : ℕ) → i < number_of_stairs self.now.lines.now → IsProduct (mono factor.now) variable (stair_at self.now.lines.now i) → ⊥) (λ i. (i < number_of_stairs self.now.lines.now) × IsProduct (mono factor.now) variable (stair_at self.now.lines.now i)) }
+    {
+        self.stairs
+            .iter()
+            .position(|stair| is_product(factor, variable, stair))
     }
-    true
-}
 
-// The number of the first stair that is the product.
-pub(crate) fn find_stair(stairs: &Stairs, factor: &Monomial, variable: usize) -> Option<usize>
-    requires { stairs.now.count ≤ 64 }
-    ensures { MatchOption result ((i : ℕ) → i < stairs.now.count → IsProduct (mono factor.now.exponents) variable (listed_at stairs.now.monomials i) → ⊥) (λ i. (i < stairs.now.count) × IsProduct (mono factor.now.exponents) variable (listed_at stairs.now.monomials i)) }
-{
-    for number in 0..stairs.count {
-        if is_product(factor, variable, &stairs.monomials[number]) {
-            return Some(number);
-        }
+    // The first relation that the product leads.
+    pub(crate) fn find_relation(&self, factor: &[u16; 4], variable: usize) -> Option<&Line>
+        ensures { MatchOption result ((i : ℕ) → i < length self.now.lines.now → is_stair (line_at self.now.lines.now i) ≡ false → IsProduct (mono factor.now) variable (monomial_of (line_at self.now.lines.now i)) → ⊥) (λ line. (i : ℕ) × (i < length self.now.lines.now) × (line.now ≡ line_at self.now.lines.now i) × (is_stair (line_at self.now.lines.now i) ≡ false) × IsProduct (mono factor.now) variable (monomial_of (line_at self.now.lines.now i))) }
+    {
+        self.lines.iter().find(|line| {
+            matches!(line.verdict, Verdict::Relation)
+                && is_product(factor, variable, &line.monomial.exponents)
+        })
     }
-    None
-}
-
-// The place of the first relation that the product leads.
-pub(crate) fn find_relation(lines: &[Line], factor: &Monomial, variable: usize) -> Option<usize>
-    ensures { MatchOption result ((i : ℕ) → i < length lines.now → is_stair (line_at lines.now i) ≡ false → IsProduct (mono factor.now.exponents) variable (monomial_of (line_at lines.now i)) → ⊥) (λ i. (i < length lines.now) × (is_stair (line_at lines.now i) ≡ false) × IsProduct (mono factor.now.exponents) variable (monomial_of (line_at lines.now i))) }
-{
-    for (place, line) in lines.iter().enumerate() {
-        if let Verdict::Relation = line.verdict {
-            if is_product(factor, variable, &line.monomial) {
-                return Some(place);
-            }
-        }
-    }
-    None
 }
