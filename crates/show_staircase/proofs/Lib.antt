@@ -1,5 +1,5 @@
 mod Counts
 mod Cuts
 mod Drawn
-mod Searches
+mod Lines
 mod Texts
