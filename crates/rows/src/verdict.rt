@@ -1,5 +1,5 @@
 // What a monomial was judged to be: one of the staircase, or the lead of a relation.
-#[derive(Clone, Copy)]
+#[derive(Clone, Copy, PartialEq, Eq, Debug)]
 pub enum Verdict {
     Stair,
     Relation,
