@@ -2,4 +2,3 @@ mod Counts
 mod Cuts
 mod Drawn
 mod Lines
-mod Texts

@@ -1,5 +1,5 @@
 -- The drawing of a listing: rows of marks from the top, and the exponents beside and below them.
-use Rattle.std.specs.Prelude.{ℕ, zero, suc, ◌+◌, ◌-◌, ◌/◌, ◌%◌, max, cond, List, [], ◌++◌, codes, decimal, fold, nat_lt}
+use Rattle.std.specs.Prelude.{ℕ, zero, suc, ◌+◌, ◌-◌, ◌/◌, ◌%◌, max, cond, List, [], ◌++◌, codes, decimal, fold, nat_lt, ◌≡◌, ◌<◌, Result, String, IfOk, string_bytes}
 use Rattle.show_staircase.specs.declared.marks.Exponents.{Exponents}
 use Rattle.show_staircase.specs.declared.marks.Listed.{Listed}
 use Rattle.show_staircase.specs.declared.marks.Mark.{Mark}
@@ -14,6 +14,11 @@ newline = codes "\n"
 abbrev pub up_to : (ℕ → List ℕ) → ℕ → List ℕ
 up_to text zero = []
 up_to text (suc n) = up_to text n ++ text n
+
+-- what is made for each number below a count is its text
+abbrev pub Spells : {Z E : Type 0} → (ℕ → Result (String Z) E → Type 0) → (ℕ → List ℕ) → ℕ → Type 0
+Spells {Z} {E} Made text count =
+    (number : ℕ) → number < count → (made : Result (String Z) E) → Made number made → IfOk made (λ s. string_bytes s ≡ text number)
 
 -- the character of a mark
 abbrev pub mark_text : Mark → List ℕ

@@ -1,6 +1,6 @@
 // The exponents beside and below a drawing, in two columns or on two lines: tens and units.
 ghost use Rattle.std.specs.Prelude.{◌≡◌, ℕ, ◌<◌, List, IfOk, string_bytes};
-ghost use Rattle.show_staircase.specs.Drawings.{tens_text, units_text, line_below, tens_line, units_line};
+ghost use Rattle.show_staircase.specs.Drawings.{Spells, tens_text, units_text, line_below, tens_line, units_line};
 
 use crate::pieces::up_to;
 use std::alloc::{AllocError, Global};
@@ -31,9 +31,7 @@ fn line_below<F: Fn(usize) -> Result<String, AllocError>>(
     label: F,
 ) -> Result<String, AllocError>
     requires { F.IsAlwaysCallable label }
-    ensures { (spelled : ℕ → List ℕ) →
-        ((column : ℕ) → column < columns → (made : _) → F.post label column made → IfOk made (λ text. string_bytes text ≡ spelled column)) →
-        IfOk result (λ text. string_bytes text ≡ line_below spelled columns) }
+    ensures { (spelled : ℕ → List ℕ) → Spells (F.post label) spelled columns → IfOk result (λ text. string_bytes text ≡ line_below spelled columns) }
 {
     let labels = up_to(heap, columns, |column| {
         let label = label(column)?;

@@ -1,6 +1,6 @@
 // Texts made of a piece for each number below a count.
 ghost use Rattle.std.specs.Prelude.{◌≡◌, ℕ, ◌<◌, List, IfOk, string_bytes};
-ghost use Rattle.show_staircase.specs.Drawings.{up_to};
+ghost use Rattle.show_staircase.specs.Drawings.{Spells, up_to};
 
 use std::alloc::{AllocError, Global};
 
@@ -11,9 +11,7 @@ pub fn up_to<F: Fn(usize) -> Result<String, AllocError>>(
     piece: F,
 ) -> Result<String, AllocError>
     requires { (number : ℕ) → number < count → F.pre piece number }
-    ensures { (spelled : ℕ → List ℕ) →
-        ((number : ℕ) → number < count → (made : _) → F.post piece number made → IfOk made (λ text. string_bytes text ≡ spelled number)) →
-        IfOk result (λ text. string_bytes text ≡ up_to spelled count) }
+    ensures { (spelled : ℕ → List ℕ) → Spells (F.post piece) spelled count → IfOk result (λ text. string_bytes text ≡ up_to spelled count) }
 {
     let mut text = String::new(heap);
     for number in 0..count {

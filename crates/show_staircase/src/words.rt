@@ -16,10 +16,7 @@ fn is_number(word: &str) -> bool
 pub fn exponent(word: &str) -> Option<u16>
     ensures { ReadsExponent word.now result }
 {
-    match word.parse::<u16>() {
-        Ok(exponent) if exponent <= LARGEST => Some(exponent),
-        _ => None,
-    }
+    word.parse().ok().filter(|exponent| *exponent <= LARGEST)
 }
 
 // Whether a text has digits and spaces only.

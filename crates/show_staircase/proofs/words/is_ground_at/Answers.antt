@@ -10,4 +10,4 @@ at_lacks = search rules
 pub returns : goal.returns
 returns c =
     cut_decides Number (Counting (codes "at")) (λ ground n. spaceless ground n.0) c.args.text.now c.split_once.result
-    c.split_once.ensures.cases c.is_some_and.result _ (λ x told. let counts = told in let lacks = at_lacks in search rules) c.is_some_and.ensures
+    c.split_once.ensures.cases c.is_some_and.result _ (λ x told. search (rules, at_lacks)) c.is_some_and.ensures
