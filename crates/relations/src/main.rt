@@ -1,7 +1,7 @@
 // Reads a file of records on standard input, and prints the listing of the row that it means, or the line of its refusal.
 #![tactic(auto)]
 
-ghost use Rattle.std.specs.Prelude.{◌≡◌, ◌≤◌, length, take, IfOk, IfSome};
+ghost use Rattle.std.specs.Prelude.{◌≡◌, ℕ, ◌≤◌, List, length, take, IfOk, IfSome};
 ghost use Rattle.patterns.specs.Files.{Whole};
 
 use anyhow::anyhow;
@@ -16,7 +16,7 @@ const LIMIT: u64 = 805;
 // The bytes of an input up to its end or the limit.
 fn read_start<R: Read + Drop>(heap: Global, input: R) -> io::Result<Vec<u8>>
     ensures start { IfOk result (λ bytes. IfSome (R.remaining input) (λ all. bytes.items ≡ take LIMIT all)) }
-    ensures refused { IfOk result (λ bytes. LIMIT ≤ length bytes.items → Whole bytes.items → ⊥) }
+    ensures refused { (bytes : List ℕ) → LIMIT ≤ length bytes → Whole bytes → ⊥ }
 {
     let mut bytes = Vec::new(heap);
     input.take(LIMIT).read_to_end(&mut bytes)?;
