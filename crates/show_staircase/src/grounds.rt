@@ -23,7 +23,7 @@ pub enum Ground {
     Ended,
 }
 
-// What is said of the line.
+// What is said of the line; by hand, since no contract tells the text that a derive writes.
 impl fmt::Display for Ground {
     ghost output = { λ g. Some (ground_text g) };
 

@@ -15,6 +15,7 @@ fn monomials(heap: Global, below: &[&str]) -> anyhow::Result<Vec<Listed>>
 {
     let mut listed = Vec::new(heap);
     for (place, line) in below.iter().enumerate() {
+        // The heading is line 1.
         let number = place + 2;
         if is_counting(line, "score") {
             if place + 1 < below.len() {
