@@ -1,1 +1,1 @@
-mod Joins
+mod Turns

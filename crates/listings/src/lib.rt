@@ -1,6 +1,7 @@
 // Listings: the text of a worksheet's lines, and the line of a refusal.
 #![tactic(auto)]
 
+mod joins;
 mod lines;
 mod numbers;
 mod refusals;

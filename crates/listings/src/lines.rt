@@ -2,6 +2,7 @@
 ghost use Rattle.std.specs.Prelude.{◌≡◌, IfOk, string_bytes};
 ghost use Rattle.listings.specs.Listings.{line_text, lines_text};
 
+use crate::joins::joined;
 use crate::numbers::spaced_first;
 use rows::{Line, Verdict};
 use std::alloc::{AllocError, Global};
@@ -34,9 +35,5 @@ pub fn lines_text(
 ) -> Result<String, AllocError>
     ensures { IfOk result (λ text. string_bytes text ≡ lines_text variables stairs lines.now) }
 {
-    let mut text = String::new(heap);
-    for line in lines {
-        text.push_str(line_text(heap, variables, stairs, line)?.as_str())?;
-    }
-    Ok(text)
+    joined(heap, lines, |line| line_text(heap, variables, stairs, line))
 }

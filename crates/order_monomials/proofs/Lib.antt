@@ -1,2 +1,2 @@
-pub mod Selection
+pub mod Sorting
 pub mod Table

@@ -12,10 +12,7 @@ use monomials::{Graded, Lexicographic, MonomialOrder, Weighted, Weights};
 use text::Written;
 
 fn weights(weights: [u16; 4]) -> anyhow::Result<Weights> {
-    match Weights::new(weights) {
-        Ok(weights) => Ok(weights),
-        Err(_) => Err(anyhow!("a weight is above 255")),
-    }
+    Weights::new(weights).map_err(|_| anyhow!("a weight is above 255"))
 }
 
 fn print_ascending<O: MonomialOrder>(rt: &impl Print, name: &str, order: &O) -> anyhow::Result<()> {

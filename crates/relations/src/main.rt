@@ -1,45 +1,32 @@
 // Reads a file of records on standard input, and prints the listing of the row that it means, or the line of its refusal.
 #![tactic(auto)]
 
-ghost use Rattle.std.specs.Prelude.{ℕ, ◌≤◌, List, length, IfOk};
+ghost use Rattle.std.specs.Prelude.{◌≡◌, ℕ, ◌≤◌, List, length, take, IfOk, IfSome};
 ghost use Rattle.patterns.specs.Files.{Whole};
 
 use anyhow::anyhow;
 use printouts::printout;
+use std::alloc::Global;
 use std::io;
 use std::io::Read;
 
-// Room for one byte more than the longest file that is taken: an input that fills it is refused, whatever follows.
-fn room() -> [u8; 805]
-    ensures { (bytes : List ℕ) → length result ≤ length bytes → Whole bytes → ⊥ }
-{
-    [0; 805]
-}
+// One byte more than the longest file that is taken: an input that reaches it is refused, whatever follows.
+const LIMIT: u64 = 805;
 
-// Reads from standard input until it ends or the room is full, and answers how many bytes were read.
-fn read_input(rt: &HostRuntime, room: &mut [u8]) -> io::Result<usize>
-    ensures { IfOk result (λ count. count ≤ length room.new) }
+// The bytes of an input up to its end or the limit.
+fn read_start<R: Read + Drop>(heap: Global, input: R) -> io::Result<Vec<u8>>
+    ensures start { IfOk result (λ bytes. IfSome (R.remaining input) (λ all. bytes.items ≡ take LIMIT all)) }
+    ensures refused { (bytes : List ℕ) → LIMIT ≤ length bytes → Whole bytes → ⊥ }
 {
-    let mut input = rt.stdin();
-    let mut count = 0;
-    for _ in 0..room.len() {
-        let more = input.read(&mut room[count..])?;
-        if more == 0 {
-            break;
-        }
-        count += more;
-    }
-    Ok(count)
+    let mut bytes = Vec::new(heap);
+    input.take(LIMIT).read_to_end(&mut bytes)?;
+    Ok(bytes)
 }
 
 fn print_relations(rt: &HostRuntime) -> anyhow::Result<()> {
-    let mut room = room();
-    let Ok(count) = read_input(rt, &mut room) else {
-        return Err(anyhow!("standard input cannot be read"));
-    };
-    let Ok(text) = printout(rt.alloc(), &room[0..count]) else {
-        return Err(anyhow!("there is not enough memory"));
-    };
+    let heap = rt.alloc();
+    let bytes = read_start(heap, rt.stdin()).map_err(|_| anyhow!("standard input cannot be read"))?;
+    let text = printout(heap, &bytes).map_err(|_| anyhow!("there is not enough memory"))?;
     rt.print(text)?;
     Ok(())
 }

@@ -1,9 +1,10 @@
 -- Numbers hold no space and no colon, so a cut at the first of them is where a text is put together.
-use Rattle.std.proofs.Common.{◌≡◌, ℕ, zero, suc, ◌≤◌, Bool, true, false, cond, eqb, List, [], ◌∷◌, ◌++◌, get_or, drop, Some, None, codes, Option, sym, refl, ap, ◌∙◌, append_assoc, arith, lit<, Bor, rules, eqb-true, MatchOption}
+use Rattle.std.proofs.Common.{◌≡◌, ℕ, zero, suc, ◌≤◌, Bool, true, false, cond, eqb, List, [], ◌∷◌, ◌++◌, get_or, drop, Some, None, codes, Option, sym, refl, ap, ◌∙◌, append_assoc, arith, lit<, Bor, rules, eqb-true, MatchOption, Decides}
 use mathlib.Core.Path.{subst⁻¹}
 use Rattle.std.specs.Str.Parse.{IsNumeral, without_leading_plus}
 use Rattle.std.proofs.lemmas.Str.Parse.{digit_at}
-use Rattle.std.proofs.lemmas.Str.Pattern.{IsSplitOnceResult, split_after}
+use Rattle.std.proofs.lemmas.Str.Pattern.{IsSplitOnceResult, split_after, split_parts}
+use borrow.Author.Tests.{clash}
 use Rattle.rows.specs.declared.verdict.Verdict.{Verdict}
 use Rattle.rows.specs.declared.verdict.Verdict.TheVariants.{Stair, Relation}
 use Rattle.show_staircase.specs.Readings.{Lacks, Exponent, Pair, Codes, RelationText, ListsAs}
@@ -69,6 +70,35 @@ relation_cut text u v (pair, tail, e, c, p) (Some x) cut =
     let same = split_after 58 text (pair ++ (32 ∷ [])) tail (Some x) cut (lit< tt) (e ∙ sym (append_assoc pair (32 ∷ []) (58 ∷ tail)))
     (lacks_append 58 pair (32 ∷ []) (pair_lacks pair u v p) space_lacks) in
     (pair, same.0, subst⁻¹ Codes same.1 c, p)
+
+-- a test of the parts of a cut at the space decides whether a text is two such parts
+pub cut_decides : (First Rest : List ℕ → Type 0) → ((first : List ℕ) → First first → Lacks 32 first) →
+    (text : List ℕ) (r : Halves) → IsSplitOnceResult 32 text r → (b : Bool) (Told : Bor (List ℕ) × Bor (List ℕ) → Type 0) →
+    ((x : Bor (List ℕ) × Bor (List ℕ)) → Told x → Decides b (First x.0.now × Rest x.1.now)) → MatchOption r (b ≡ false) Told →
+    Decides b ((first : List ℕ) × (rest : List ℕ) × (text ≡ first ++ (32 ∷ rest)) × First first × Rest rest)
+cut_decides First Rest lacks text None cut b Told means none = (
+  λ yes. absurd (clash (sym none ∙ yes)),
+  λ (first, rest, e, p, q). absurd (split_after 32 text first rest None cut (lit< tt) e (lacks first p)),
+)
+cut_decides First Rest lacks text (Some x) cut b Told means told = (
+  λ yes.
+      let parts = (means x told).0 yes in
+      (x.0.now, x.1.now, (split_parts 32 text (Some x) cut (lit< tt)).0, parts.0, parts.1),
+  λ (first, rest, e, p, q).
+      let same = split_after 32 text first rest (Some x) cut (lit< tt) e (lacks first p) in
+      (means x told).1 (subst⁻¹ First same.0 p, subst⁻¹ Rest same.1 q),
+)
+
+-- and whether it is the word and such a rest
+pub word_decides : (word : List ℕ) (Rest : List ℕ → Type 0) → Lacks 32 word →
+    (line : List ℕ) (r : Halves) → IsSplitOnceResult 32 line r → (b : Bool) (Told : Bor (List ℕ) × Bor (List ℕ) → Type 0) →
+    ((x : Bor (List ℕ) × Bor (List ℕ)) → Told x → Decides b ((x.0.now ≡ word) × Rest x.1.now)) → MatchOption r (b ≡ false) Told →
+    Decides b ((rest : List ℕ) × (line ≡ word ++ (32 ∷ rest)) × Rest rest)
+word_decides word Rest lacks line r cut b Told means told =
+    let d = cut_decides (λ first. first ≡ word) Rest (λ first e. subst⁻¹ (Lacks 32) e lacks) line r cut b Told means told in (
+      λ yes. let (first, rest, e, same, q) = d.0 yes in (rest, e ∙ ap (λ w. w ++ (32 ∷ rest)) same, q),
+      λ (rest, e, q). d.1 (word, rest, e, refl, q),
+    )
 
 -- what stands after the word of a line that lists a monomial
 abbrev pub Worded : Verdict → List ℕ → List ℕ → ℕ → ℕ → Type 0

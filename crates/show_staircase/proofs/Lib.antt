@@ -1,5 +1,4 @@
 mod Counts
 mod Cuts
 mod Drawn
-mod Searches
-mod Texts
+mod Lines

@@ -1,5 +1,5 @@
 -- What the words and lines of a listing say.
-use Rattle.std.specs.Prelude.{◌≡◌, ℕ, ◌^◌, ◌<◌, ◌≤◌, Bool, true, false, ◌⊎◌, List, [], ◌∷◌, ◌++◌, length, Some, None, codes, Option, ◌≢◌, slice_index}
+use Rattle.std.specs.Prelude.{◌≡◌, ℕ, ◌^◌, ◌<◌, ◌≤◌, ◌⊎◌, List, [], ◌∷◌, ◌++◌, length, Some, None, codes, Option, ◌≢◌, slice_index}
 use Rattle.std.specs.Str.Parse.{IsNumeral, digits_value, without_leading_plus}
 use Rattle.std.specs.List.{AllByRecursion}
 use Rattle.rows.specs.declared.verdict.Verdict.{Verdict}
@@ -7,10 +7,6 @@ use Rattle.rows.specs.declared.verdict.Verdict.TheVariants.{Stair, Relation}
 use Rattle.show_staircase.specs.declared.grounds.Ground.{Ground}
 use Rattle.show_staircase.specs.declared.grounds.Ground.TheVariants as grounds
 use Rattle.show_staircase.specs.declared.marks.Listed.{Listed}
-use Rattle.show_staircase.specs.declared.reading.Awaited.{Awaited}
-use Rattle.show_staircase.specs.declared.reading.Awaited.TheVariants as awaited
-use Rattle.show_staircase.specs.declared.reading.Line.{Line}
-use Rattle.show_staircase.specs.declared.reading.Line.TheVariants as said
 
 -- the largest exponent that is drawn, since one more has two digits still
 abbrev pub largest : ℕ
@@ -60,7 +56,7 @@ ListsAs Relation line u v = (rest : List ℕ) × (line ≡ codes "rel" ++ (32 �
 
 -- a line lists a monomial
 abbrev pub Lists : List ℕ → Listed → Type 0
-Lists line l = ListsAs l.verdict line l.u l.v
+Lists line l = ListsAs l.verdict line l.exponents.u l.exponents.v
 
 -- the grounds of a line that lists no monomial
 abbrev pub NoMonomial : Ground → Type 0
@@ -78,40 +74,26 @@ GroundAt text = (ground : List ℕ) × (tail : List ℕ) × (text ≡ ground ++ 
 abbrev pub RefusalLine : List ℕ → Type 0
 RefusalLine line = (rest : List ℕ) × (line ≡ codes "refused" ++ (32 ∷ rest)) × GroundAt rest
 
--- what a line says where something is awaited: first the heading, then monomials up to the score
-abbrev pub Said : Awaited → List ℕ → Line → Type 0
-Said awaited.Heading line said.Heading = Counting (codes "judged") line
-Said awaited.Heading line (said.Monomial l) = ⊥
-Said awaited.Heading line said.Score = ⊥
-Said awaited.Monomials line said.Heading = ⊥
-Said awaited.Monomials line (said.Monomial l) = Lists line l
-Said awaited.Monomials line said.Score = Counting (codes "score") line
-Said awaited.Nothing line said.Heading = ⊥
-Said awaited.Nothing line (said.Monomial l) = ⊥
-Said awaited.Nothing line said.Score = ⊥
+-- lines list the monomials, one each and in their order
+abbrev pub ListsEach : List (List ℕ) → List Listed → Type 0
+ListsEach [] [] = Unit {0}
+ListsEach [] (l ∷ ls) = ⊥
+ListsEach (line ∷ lines) [] = ⊥
+ListsEach (line ∷ lines) (l ∷ ls) = Lists line l × ListsEach lines ls
 
--- why a line says nothing where something is awaited, and that it does not
-abbrev pub Unsaid : Awaited → List ℕ → Ground → Type 0
-Unsaid awaited.Heading line ground = (ground ≡ grounds.Heading) × (Counting (codes "judged") line → ⊥)
-Unsaid awaited.Monomials line ground = NoMonomial ground × ((l : Listed) → Lists line l → ⊥) × (Counting (codes "score") line → ⊥)
-Unsaid awaited.Nothing line ground = ground ≡ grounds.Ended
+-- lines list the monomials, of which there is one at least, and the last line is the score
+abbrev pub ListsUpToScore : List (List ℕ) → List Listed → Type 0
+ListsUpToScore lines ls =
+    (each : List (List ℕ)) × (score : List ℕ) × (lines ≡ each ++ score ∷ []) × ListsEach each ls × (0 < length ls) × Counting (codes "score") score
 
--- after what a line said: a monomial is listed last, and monomials come up to the score
-abbrev pub Kept : List Listed → Line → Awaited → List Listed → Type 0
-Kept ls said.Heading next after = (next ≡ awaited.Monomials) × (after ≡ ls)
-Kept ls (said.Monomial l) next after = (next ≡ awaited.Monomials) × (after ≡ ls ++ l ∷ [])
-Kept ls said.Score next after = (next ≡ awaited.Nothing) × (after ≡ ls)
-
--- what is lacking at the end of a text: the heading, the score, or any monomial
-abbrev pub lacking : Awaited → Bool → Option Ground
-lacking awaited.Heading none = Some grounds.Heading
-lacking awaited.Monomials none = Some grounds.Unended
-lacking awaited.Nothing true = Some grounds.Unlisted
-lacking awaited.Nothing false = None
+-- the lines of a listing: the heading, those of the monomials, and the score
+abbrev pub IsListing : List (List ℕ) → List Listed → Type 0
+IsListing lines ls =
+    (heading : List ℕ) × (below : List (List ℕ)) × (lines ≡ heading ∷ below) × Counting (codes "judged") heading × ListsUpToScore below ls
 
 -- a listed monomial has exponents that are drawn
 abbrev pub Drawn : Listed → Type 0
-Drawn l = (l.u ≤ largest) × (l.v ≤ largest)
+Drawn l = (l.exponents.u ≤ largest) × (l.exponents.v ≤ largest)
 
 -- each listed monomial does
 abbrev pub AllDrawn : List Listed → Type 0

@@ -1,10 +1,10 @@
 // The drawing of a listing: rows of marks from the top, and the exponents beside and below them.
 ghost use Rattle.std.specs.Prelude.{◌≡◌, IfOk, Some, string_bytes};
-ghost use Rattle.show_staircase.specs.Drawings.{mark_text, cell_text, row_down, columns_of, rows_of, drawing_text};
+ghost use Rattle.show_staircase.specs.Drawings.{mark_text, cell_text, row_text, greatest_exponents, drawing_text};
 
 use crate::labels::{tens, tens_line, units, units_line};
-use crate::marks::{Listed, Mark, mark_at};
-use crate::pieces::{Pieces, up_to};
+use crate::marks::{Exponents, Listed, Mark, mark_at};
+use crate::pieces::up_to;
 use std::alloc::{AllocError, Global};
 use std::fmt;
 
@@ -20,79 +20,48 @@ impl fmt::Display for Mark {
     }
 }
 
-// The marks of one row, by its exponent of v.
-#[derive(Clone, Copy)]
-struct Cells<'a> {
-    listed: &'a [Listed],
-    v: usize,
-}
-
-impl Pieces for Cells<'_> {
-    ghost spelled = { λ c. cell_text c.listed.now c.v };
-
-    fn piece(&self, heap: Global, number: usize) -> Result<String, AllocError> {
-        let mark = mark_at(self.listed, number, self.v);
-        format!(in heap; " {mark}")
-    }
-}
-
-// The rows, counted from the top.
-#[derive(Clone, Copy)]
-struct RowsDown<'a> {
-    listed: &'a [Listed],
-    columns: usize,
-    rows: usize,
-}
-
-impl Pieces for RowsDown<'_> {
-    ghost spelled = { λ r. row_down r.listed.now r.columns r.rows };
-
-    fn piece(&self, heap: Global, number: usize) -> Result<String, AllocError> {
-        let v = self.rows.saturating_sub(1).saturating_sub(number);
-        let listed = self.listed;
-        let cells = up_to(heap, &Cells { listed, v }, self.columns)?;
-        let tens = tens(heap, v)?;
-        let units = units(heap, v)?;
-        format!(in heap; "{tens}{units}{cells}\n")
-    }
-}
-
-// As many columns as the exponents of u up to one more than the greatest.
-fn count_columns(listed: &[Listed]) -> usize
-    ensures { result ≡ columns_of listed.now }
+// A space and the mark at u^i v^j.
+fn cell(heap: Global, listed: &[Listed], u: usize, v: usize) -> Result<String, AllocError>
+    ensures { IfOk result (λ text. string_bytes text ≡ cell_text listed.now v u) }
 {
-    let mut most: u16 = 0;
-    for monomial in listed {
-        most = most.max(monomial.u);
-    }
-    most as usize + 2
+    let mark = mark_at(listed, u, v);
+    format!(in heap; " {mark}")
 }
 
-// As many rows as the exponents of v up to one more than the greatest.
-fn count_rows(listed: &[Listed]) -> usize
-    ensures { result ≡ rows_of listed.now }
+// An exponent of v, and the marks of the columns.
+fn row(heap: Global, listed: &[Listed], columns: usize, v: usize) -> Result<String, AllocError>
+    ensures { IfOk result (λ text. string_bytes text ≡ row_text listed.now columns v) }
 {
-    let mut most: u16 = 0;
-    for monomial in listed {
-        most = most.max(monomial.v);
-    }
-    most as usize + 2
+    let tens = tens(heap, v)?;
+    let units = units(heap, v)?;
+    let cells = up_to(heap, columns, |u| cell(heap, listed, u, v))?;
+    format!(in heap; "{tens}{units}{cells}\n")
 }
 
-// The whole drawing.
+// The greatest exponent of each variable; 0 where nothing is listed.
+fn greatest_exponents(listed: &[Listed]) -> Exponents
+    ensures { result ≡ greatest_exponents listed.now }
+{
+    listed.iter().fold(
+        Exponents { u: 0, v: 0 },
+        |greatest, monomial| Exponents {
+            u: greatest.u.max(monomial.exponents.u),
+            v: greatest.v.max(monomial.exponents.v),
+        },
+    )
+}
+
+// The whole drawing: as many columns and rows as the exponents up to one more than the greatest.
 pub fn drawing(heap: Global, listed: &[Listed]) -> Result<String, AllocError>
     ensures { IfOk result (λ text. string_bytes text ≡ drawing_text listed.now) }
 {
-    let columns = count_columns(listed);
-    let rows = count_rows(listed);
+    let greatest = greatest_exponents(listed);
+    let columns = greatest.u as usize + 2;
+    let rows = greatest.v as usize + 2;
     let marks = up_to(
         heap,
-        &RowsDown {
-            listed,
-            columns,
-            rows,
-        },
         rows,
+        |down| row(heap, listed, columns, rows - 1 - down),
     )?;
     let tens = tens_line(heap, columns)?;
     let units = units_line(heap, columns)?;

@@ -4,13 +4,13 @@ ghost use Rattle.show_staircase.specs.Readings.{Never, Pair, RelationText, Lists
 ghost use Rattle.show_staircase.specs.declared.marks.Listed.{Listed};
 
 use crate::grounds::Ground;
-use crate::marks::Listed;
+use crate::marks::{Exponents, Listed};
 use crate::words::{are_codes, exponent};
 use rows::Verdict;
 
 // The two exponents that a text has, with a space between.
-fn pair(text: &str) -> Result<(u16, u16), Ground>
-    ensures { MatchResult result (λ p. Pair text.now p.0 p.1) (λ reason. NoMonomial reason × Never (Pair text.now)) }
+fn pair(text: &str) -> Result<Exponents, Ground>
+    ensures { MatchResult result (λ p. Pair text.now p.u p.v) (λ reason. NoMonomial reason × Never (Pair text.now)) }
 {
     let Some((first, second)) = text.split_once(' ') else {
         return Err(Ground::Axes);
@@ -24,12 +24,12 @@ fn pair(text: &str) -> Result<(u16, u16), Ground>
     let Some(v) = exponent(second) else {
         return Err(Ground::Exponent);
     };
-    Ok((u, v))
+    Ok(Exponents { u, v })
 }
 
 // The exponents of a relation, before its codes.
-fn relation(text: &str) -> Result<(u16, u16), Ground>
-    ensures { MatchResult result (λ p. RelationText text.now p.0 p.1) (λ reason. NoMonomial reason × Never (RelationText text.now)) }
+fn relation(text: &str) -> Result<Exponents, Ground>
+    ensures { MatchResult result (λ p. RelationText text.now p.u p.v) (λ reason. NoMonomial reason × Never (RelationText text.now)) }
 {
     let Some((before, codes)) = text.split_once(':') else {
         return Err(Ground::Line);
@@ -52,16 +52,14 @@ pub fn entry(line: &str) -> Result<Listed, Ground>
         return Err(Ground::Line);
     };
     match word {
-        "stair" => {
-            let (u, v) = pair(rest)?;
-            let verdict = Verdict::Stair;
-            Ok(Listed { u, v, verdict })
-        }
-        "rel" => {
-            let (u, v) = relation(rest)?;
-            let verdict = Verdict::Relation;
-            Ok(Listed { u, v, verdict })
-        }
+        "stair" => Ok(Listed {
+            exponents: pair(rest)?,
+            verdict: Verdict::Stair,
+        }),
+        "rel" => Ok(Listed {
+            exponents: relation(rest)?,
+            verdict: Verdict::Relation,
+        }),
         _ => Err(Ground::Line),
     }
 }

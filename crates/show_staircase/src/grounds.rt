@@ -5,7 +5,7 @@ ghost use Rattle.show_staircase.specs.Misreadings.{ground_text, misread_text};
 use std::error::Error;
 use std::fmt;
 
-#[derive(Clone, Copy)]
+#[derive(Clone, Copy, Debug)]
 pub enum Ground {
     // the first line is not `judged` and a number
     Heading,
@@ -23,43 +23,45 @@ pub enum Ground {
     Ended,
 }
 
-impl Ground {
-    // What is said of the line.
-    fn words(&self) -> &'static str
-        ensures { result.now ≡ ground_text self.now }
-    {
+// What is said of the line; by hand, since no contract tells the text that a derive writes.
+impl fmt::Display for Ground {
+    ghost output = { λ g. Some (ground_text g) };
+
+    fn fmt<W: fmt::Write>(&self, f: &mut fmt::Formatter<W>) -> fmt::Result {
         match self {
-            Ground::Heading => "a listing begins with `judged` and a number",
-            Ground::Line => "neither a stair, a relation nor the score",
-            Ground::Axes => "not of two axes",
-            Ground::Exponent => "an exponent is no number up to 98",
-            Ground::Unlisted => "a score with no monomial before it",
-            Ground::Unended => "the listing ends with no score",
-            Ground::Ended => "a line after the score",
+            Ground::Heading => write!(f, "a listing begins with `judged` and a number"),
+            Ground::Line => write!(f, "neither a stair, a relation nor the score"),
+            Ground::Axes => write!(f, "not of two axes"),
+            Ground::Exponent => write!(f, "an exponent is no number up to 98"),
+            Ground::Unlisted => write!(f, "a score with no monomial before it"),
+            Ground::Unended => write!(f, "the listing ends with no score"),
+            Ground::Ended => write!(f, "a line after the score"),
         }
     }
 }
 
 // The line at fault, counted from 1.
-#[derive(Clone, Copy)]
+#[derive(Clone, Copy, Debug)]
 pub struct Misread {
     pub line: usize,
     pub ground: Ground,
+}
+
+impl Misread {
+    // The ground, at a line.
+    pub fn at(line: usize, ground: Ground) -> Misread
+        ensures line { result.line ≡ line }
+        ensures ground { result.ground ≡ ground }
+    {
+        Misread { line, ground }
+    }
 }
 
 impl fmt::Display for Misread {
     ghost output = { λ m. Some (misread_text m) };
 
     fn fmt<W: fmt::Write>(&self, f: &mut fmt::Formatter<W>) -> fmt::Result {
-        let line = self.line;
-        let words = self.ground.words();
-        write!(f, "line {line}: {words}")
-    }
-}
-
-impl fmt::Debug for Misread {
-    fn fmt<W: fmt::Write>(&self, f: &mut fmt::Formatter<W>) -> fmt::Result {
-        write!(f, "{self}")
+        write!(f, "line {}: {}", self.line, self.ground)
     }
 }
 

@@ -1,8 +1,8 @@
 // The exponents beside and below a drawing, in two columns or on two lines: tens and units.
-ghost use Rattle.std.specs.Prelude.{◌≡◌, IfOk, string_bytes};
-ghost use Rattle.show_staircase.specs.Drawings.{tens_text, units_text, tens_below, units_below, tens_line, units_line};
+ghost use Rattle.std.specs.Prelude.{◌≡◌, ℕ, ◌<◌, List, IfOk, string_bytes};
+ghost use Rattle.show_staircase.specs.Drawings.{Spells, tens_text, units_text, line_below, tens_line, units_line};
 
-use crate::pieces::{Pieces, up_to};
+use crate::pieces::up_to;
 use std::alloc::{AllocError, Global};
 
 // The tens of a number, or a space where it has none.
@@ -24,28 +24,20 @@ pub fn units(heap: Global, number: usize) -> Result<String, AllocError>
     format!(in heap; "{units}")
 }
 
-#[derive(Clone, Copy)]
-struct TensBelow;
-
-impl Pieces for TensBelow {
-    ghost spelled = { λ _. tens_below };
-
-    fn piece(&self, heap: Global, number: usize) -> Result<String, AllocError> {
-        let tens = tens(heap, number)?;
-        format!(in heap; " {tens}")
-    }
-}
-
-#[derive(Clone, Copy)]
-struct UnitsBelow;
-
-impl Pieces for UnitsBelow {
-    ghost spelled = { λ _. units_below };
-
-    fn piece(&self, heap: Global, number: usize) -> Result<String, AllocError> {
-        let units = units(heap, number)?;
-        format!(in heap; " {units}")
-    }
+// A line with a label below each column.
+fn line_below<F: Fn(usize) -> Result<String, AllocError>>(
+    heap: Global,
+    columns: usize,
+    label: F,
+) -> Result<String, AllocError>
+    requires { F.IsAlwaysCallable label }
+    ensures { (spelled : ℕ → List ℕ) → Spells (F.post label) spelled columns → IfOk result (λ text. string_bytes text ≡ line_below spelled columns) }
+{
+    let labels = up_to(heap, columns, |column| {
+        let label = label(column)?;
+        format!(in heap; " {label}")
+    })?;
+    format!(in heap; "  {labels}\n")
 }
 
 // The line of the tens below the columns; empty where no column has any.
@@ -55,14 +47,12 @@ pub fn tens_line(heap: Global, columns: usize) -> Result<String, AllocError>
     if columns <= 10 {
         return Ok(String::new(heap));
     }
-    let tens = up_to(heap, &TensBelow, columns)?;
-    format!(in heap; "  {tens}\n")
+    line_below(heap, columns, |column| tens(heap, column))
 }
 
 // The line of the units below the columns.
 pub fn units_line(heap: Global, columns: usize) -> Result<String, AllocError>
     ensures { IfOk result (λ text. string_bytes text ≡ units_line columns) }
 {
-    let units = up_to(heap, &UnitsBelow, columns)?;
-    format!(in heap; "  {units}\n")
+    line_below(heap, columns, |column| units(heap, column))
 }

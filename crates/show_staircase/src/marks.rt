@@ -1,14 +1,20 @@
 // What stands at each monomial u^i v^j of a listing.
 ghost use Rattle.std.specs.Prelude.{◌≡◌};
-ghost use Rattle.show_staircase.specs.Marks.{agrees, is_at, listed_as, mark_at};
+ghost use Rattle.show_staircase.specs.Marks.{is_at, listed_as, mark_at};
 
 use rows::Verdict;
 
-// A listed monomial u^i v^j with its verdict.
+// The exponents of a monomial u^i v^j.
 #[derive(Clone, Copy)]
-pub struct Listed {
+pub struct Exponents {
     pub u: u16,
     pub v: u16,
+}
+
+// A listed monomial with its verdict.
+#[derive(Clone, Copy)]
+pub struct Listed {
+    pub exponents: Exponents,
     pub verdict: Verdict,
 }
 
@@ -19,23 +25,12 @@ pub enum Mark {
     Rest,
 }
 
-// Whether two verdicts are the same.
-fn agree(a: Verdict, b: Verdict) -> bool
-    ensures { result ≡ agrees a b }
-{
-    match (a, b) {
-        (Verdict::Stair, Verdict::Stair) => true,
-        (Verdict::Relation, Verdict::Relation) => true,
-        (_, _) => false,
-    }
-}
-
 impl Listed {
     // Whether this is the monomial with the exponents, and has the verdict.
     fn is_at(&self, verdict: Verdict, u: usize, v: usize) -> bool
         ensures { result ≡ is_at verdict u v self.now }
     {
-        agree(self.verdict, verdict) && self.u as usize == u && self.v as usize == v
+        self.verdict == verdict && self.exponents.u as usize == u && self.exponents.v as usize == v
     }
 }
 
@@ -43,12 +38,7 @@ impl Listed {
 fn is_listed(listed: &[Listed], verdict: Verdict, u: usize, v: usize) -> bool
     ensures { result ≡ listed_as verdict listed.now u v }
 {
-    for monomial in listed {
-        if monomial.is_at(verdict, u, v) {
-            return true;
-        }
-    }
-    false
+    listed.iter().any(|monomial| monomial.is_at(verdict, u, v))
 }
 
 // The mark at the monomial with the exponents.

@@ -16,51 +16,36 @@ fn is_number(word: &str) -> bool
 pub fn exponent(word: &str) -> Option<u16>
     ensures { ReadsExponent word.now result }
 {
-    match word.parse::<u16>() {
-        Ok(exponent) if exponent <= LARGEST => Some(exponent),
-        _ => None,
-    }
+    word.parse().ok().filter(|exponent| *exponent <= LARGEST)
 }
 
 // Whether a text has digits and spaces only.
 pub fn are_codes(text: &str) -> bool
     ensures { Decides result (Codes text.now) }
 {
-    for byte in text.as_bytes() {
-        match *byte {
-            b' ' | b'0'..=b'9' => {}
-            _ => return false,
-        }
-    }
-    true
+    text.bytes()
+        .all(|byte| byte == b' ' || byte.is_ascii_digit())
 }
 
 // Whether a line is the word, which has no space, and a number.
 pub fn is_counting(line: &str, word: &str) -> bool
     ensures { Lacks 32 word.now → Decides result (Counting word.now line.now) }
 {
-    match line.split_once(' ') {
-        Some((first, number)) => first == word && is_number(number),
-        None => false,
-    }
+    line.split_once(' ')
+        .is_some_and(|(first, number)| first == word && is_number(number))
 }
 
 // Whether a text is the ground and the place of a refusal.
 fn is_ground_at(text: &str) -> bool
     ensures { Decides result (GroundAt text.now) }
 {
-    match text.split_once(' ') {
-        Some((ground, tail)) => is_number(ground) && is_counting(tail, "at"),
-        None => false,
-    }
+    text.split_once(' ').is_some_and(|(ground, tail)| is_number(ground) && is_counting(tail, "at"))
 }
 
 // Whether a line is that of a refusal.
 pub fn is_refusal(line: &str) -> bool
     ensures { Decides result (RefusalLine line.now) }
 {
-    match line.split_once(' ') {
-        Some((word, rest)) => word == "refused" && is_ground_at(rest),
-        None => false,
-    }
+    line.split_once(' ')
+        .is_some_and(|(word, rest)| word == "refused" && is_ground_at(rest))
 }

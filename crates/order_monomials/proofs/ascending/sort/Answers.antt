@@ -1,16 +1,11 @@
-use Rattle.std.proofs.lemmas.List.Sorted.{IsPermutation-trans}
-use Rattle.order_monomials.proofs.Selection.{exchanged_by_swap, settled_more}
+use Rattle.std.proofs.Common.{rules}
+use Rattle.std.proofs.lemmas.Fn.{always_returns_same}
+use Rattle.order_monomials.proofs.Sorting.{before, before_lawful, ascending_from_sorted}
 use Rattle.order_monomials.proofs.ascending.sort.Goals as goal
 
-pub loop-place-preserved : goal.loop-place-preserved
-loop-place-preserved g c =
-    let (shuffled, settled) = c.loop-place.invariant in
-    let (first, second, others, _) = c.swap.ensures.by_index in
-    let place = c.loop-place.place in
-    let least = c.least_from-least in (
-      IsPermutation-trans c.args.monomials.now c.loop-place.monomials c.swap.new.self shuffled c.swap.ensures.permutation,
-      settled_more (g.O.MonomialOrder.order c.args.under.now) c.loop-place.monomials c.swap.new.self place least.result
-          least.ensures.behind least.ensures.within
-          (exchanged_by_swap c.loop-place.monomials c.swap.new.self place least.result c.swap.ensures.len first second others)
-          settled least.ensures.least,
-    )
+pub returns-clause-ascending : goal.returns-clause-ascending
+returns-clause-ascending g c =
+    let O = g.O.MonomialOrder.order c.args.under.now in
+    let L = g.met.O.MonomialOrder.laws c.args.under.now in
+    ascending_from_sorted O L c.sort_unstable_by.new.self
+    (c.sort_unstable_by.ensures.sorted (before O) (before_lawful O L) (always_returns_same _ _ _ (λ a r f e. (search rules, search rules))))

@@ -36,7 +36,7 @@ returns-then-are_codes c =
     let cut = split_parts 58 text (Some (before, tail)) c.in-Some.ensures.cases (lit< tt) in
     let stripped = strip_suffix_char 32 before.now (Some exponents) c.in-Some-strip_suffix.ensures.cases (lit< tt) in
     MatchResult-weaker c.pair.result
-    {P = λ p. Pair exponents.now p.0 p.1} {P' = λ p. RelationText text p.0 p.1}
+    {P = λ p. Pair exponents.now p.u p.v} {P' = λ p. RelationText text p.u p.v}
     {Q = λ ground. NoMonomial ground × Never (Pair exponents.now)} {Q' = λ ground. NoMonomial ground × Never (RelationText text)}
     c.pair.ensures
     (λ p pair. (

@@ -1,6 +1,0 @@
--- What was read fits the room.
-use Rattle.std.proofs.Common.{◌≤◌, length}
-use Rattle.relations.proofs.read_input.Given as goal
-
-abbrev pub invariant-loop : goal.invariant-loop
-invariant-loop l = l.count ≤ length l.room
