@@ -33,6 +33,13 @@ impl Monomial {
         Some(Monomial { exponents })
     }
 
+    // Whether this is the other monomial: the derived test, told of what the exponents mean.
+    pub fn is_same(self, other: Monomial) -> bool
+        ensures { Decides result (mono self.exponents ≡ mono other.exponents) }
+    {
+        self == other
+    }
+
     // Whether this monomial divides the other.
     pub fn divides(&self, other: &Monomial) -> bool
         ensures { Decides result (Divides (mono self.now.exponents) (mono other.now.exponents)) }

@@ -28,7 +28,7 @@ fn is_at(entry: &Entry, coordinates: &Monomial) -> bool
     ensures { Decides result (AtCell (mono coordinates.now.exponents) entry.now) }
 {
     match *entry {
-        Entry::Cell(cell) => cell.coordinates == *coordinates,
+        Entry::Cell(cell) => cell.coordinates.is_same(*coordinates),
         _ => false,
     }
 }

@@ -11,7 +11,7 @@ use crate::plan::{FieldKind, OrderKind, Plan};
 use crate::refusing::of_record;
 use crate::singles::Singles;
 use faults::{RecordFault, SubjectFault};
-use fields::{Binary, Residue};
+use fields::{Binary, ListedField, Residue};
 use monomials::Weights;
 use records::{FieldRecord, OrderRecord, PeriodRecord};
 use subjects::count_cells;

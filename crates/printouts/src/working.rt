@@ -9,7 +9,7 @@ ghost use Rattle.listings.specs.Listings.{listing_text};
 ghost use Rattle.printouts.specs.Printouts.{lent_lines, pattern, ListsRow};
 
 use crate::copying::copy_lines;
-use faults::{Fault, WorksheetFault};
+use faults::{Refusal, WorksheetFault};
 use fields::Field;
 use listings::{listing, refusal_line};
 use monomials::MonomialOrder;
@@ -37,32 +37,32 @@ fn finished_text(
     copy_lines(from, judged, &mut copies);
     match from.score(array) {
         Ok(score) => listing(heap, judged, array.variables(), &copies[0..judged], score),
-        Err(fault) => refusal_line(heap, &fault.refusal()),
+        Err(fault) => refusal_line(heap, &Refusal::from(fault)),
     }
 }
 
 // The listing of the pattern's row, or the refusal for want of a line.
-pub(crate) fn work_out<'a, F: Field, O: MonomialOrder>(
+pub(crate) fn work_out<F: Field, O: MonomialOrder>(
     heap: Global,
     field: &F,
     order: &O,
-    periods: &'a [u16],
-    cells: &'a [u16],
+    periods: &[u16],
+    cells: &[u16],
 ) -> Result<String, AllocError>
     requires { ArrayAdmitted (F.Field.arithmetic field.now).order periods.now cells.now }
     ensures { IfOk result (λ text. ListsRow (pattern (F.Field.arithmetic field.now) (O.MonomialOrder.order order.now) periods.now cells.now) (string_bytes text)) }
 {
-    let mut array = PeriodicArray::unit();
-    if let Err(fault) = array.set(field, periods, cells) {
-        return refusal_line(heap, &fault.refusal());
-    }
+    let array = match PeriodicArray::new(field, periods, cells) {
+        Ok(array) => array,
+        Err(fault) => return refusal_line(heap, &Refusal::from(fault)),
+    };
     let mut lines = [Line::unused(); LENT_LINES];
     let mut sheet = Worksheet::open(&array, field, &mut lines);
     match sheet.run(&array, field, order) {
         Ok(ran) => match ran.ending {
             Ending::Finished => finished_text(heap, &sheet, &array),
-            Ending::Full => refusal_line(heap, &WorksheetFault::NoLineLeft.refusal()),
+            Ending::Full => refusal_line(heap, &Refusal::from(WorksheetFault::NoLineLeft)),
         },
-        Err(fault) => refusal_line(heap, &fault.refusal()),
+        Err(fault) => refusal_line(heap, &Refusal::from(fault)),
     }
 }
