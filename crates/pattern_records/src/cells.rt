@@ -11,10 +11,9 @@ use records::{CellRecord, Entry, PeriodRecord};
 fn no_cell(periods: &PeriodRecord) -> Fault
     ensures { NoCell (periods_of periods.now) result }
 {
-    if cell_count(periods.as_slice()) == 0 {
-        Fault::EmptyPeriod
-    } else {
-        Fault::ManyCells
+    match cell_count(periods.as_slice()) {
+        Some(0) => Fault::EmptyPeriod,
+        _ => Fault::ManyCells,
     }
 }
 

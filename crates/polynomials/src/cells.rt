@@ -1,9 +1,12 @@
 // The cells of a period: whether coordinates lie inside it, and the coordinates of the cell at a position.
-ghost use Rattle.std.specs.Prelude.{◌≡◌, ◌+◌, ◌/◌, ◌%◌, ◌^◌, ◌<◌, ◌≤◌, length, Decides, MatchOption, OnSome};
+ghost use Rattle.std.specs.Prelude.{◌≡◌, ◌+◌, ◌/◌, ◌%◌, ◌^◌, ◌<◌, ◌≤◌, ◌⊎◌, length, Decides, MatchOption, OnSome};
 ghost use Rattle.monomials.specs.Monomials.{mono};
 ghost use Rattle.polynomials.specs.Arrays.{period, cells_of, cell_at, Inside};
 
 use monomials::Monomial;
+
+// A monomial has an exponent for each of four axes.
+const MOST_AXES: usize = 4;
 
 // The period along an axis, counted from 0; an absent axis has period 1.
 fn along(periods: &[u16], axis: usize) -> u16
@@ -12,16 +15,18 @@ fn along(periods: &[u16], axis: usize) -> u16
     periods.get(axis).copied().unwrap_or(1)
 }
 
-// How many cells one to four periods have.
-pub fn cell_count(periods: &[u16]) -> usize
-    requires { length periods.now ≤ 4 }
-    ensures { result ≡ cells_of periods.now }
+// How many cells the period has; none where it has more than four axes.
+pub fn cell_count(periods: &[u16]) -> Option<usize>
+    ensures { MatchOption result (4 < length periods.now) (λ cells. (length periods.now ≤ 4) × (cells ≡ cells_of periods.now)) }
 {
+    if periods.len() > MOST_AXES {
+        return None;
+    }
     let first = usize::from(along(periods, 0));
     let second = usize::from(along(periods, 1));
     let third = usize::from(along(periods, 2));
     let fourth = usize::from(along(periods, 3));
-    first * (second * (third * fourth))
+    Some(first * (second * (third * fourth)))
 }
 
 // Whether coordinates lie inside the period.
@@ -41,13 +46,12 @@ fn divided(position: usize, by: u16) -> (u16, usize)
     ((position % by) as u16, position / by)
 }
 
-// The coordinates of the cell at a position; none where the period has no such cell.
+// The coordinates of the cell at a position; none where the period has no such cell, or more than four axes.
 pub fn cell_at(periods: &[u16], position: usize) -> Option<Monomial>
-    requires { length periods.now ≤ 4 }
-    ensures cases { MatchOption result (cells_of periods.now ≤ position) (λ cell. (position < cells_of periods.now) × (mono cell.exponents ≡ cell_at periods.now position)) }
+    ensures cases { MatchOption result ((4 < length periods.now) ⊎ (cells_of periods.now ≤ position)) (λ cell. (position < cells_of periods.now) × (mono cell.exponents ≡ cell_at periods.now position)) }
     ensures next { OnSome result (position + 1 < 2 ^ 64) }
 {
-    if position >= cell_count(periods) {
+    if position >= cell_count(periods)? {
         return None;
     }
     let (first, rest) = divided(position, along(periods, 0));
