@@ -1,9 +1,10 @@
 // The judged lines of small patterns, with combinations, images and pivots.
+use crate::kinds::listed;
 use crate::tables::{
     AXES, CORNERS, CUBE_BINARY, CUBE_LEXICOGRAPHIC, Judged, ONE_CELL, POWERS, SEQUENCE,
     SQUARE_ELEVEN, SQUARE_GRADED, SQUARE_LEXICOGRAPHIC, STRIP_WEIGHTED, ZEROS,
 };
-use fields::{Binary, Field, Residue};
+use fields::{Binary, Field, ListedField, Residue};
 use monomials::{Graded, Lexicographic, Monomial, MonomialOrder, Weighted, Weights};
 use rows::{Line, Verdict};
 use std::test::Fail;
@@ -12,28 +13,15 @@ use worksheet::Worksheet;
 
 // Whether the codes begin as expected, and are 0 after that.
 fn begins(codes: &[u16; 64], expected: &[u16]) -> bool {
-    for (place, code) in codes.iter().enumerate() {
-        let wanted = match expected.get(place) {
-            Some(wanted) => *wanted,
-            None => 0,
-        };
-        if *code != wanted {
-            return false;
-        }
-    }
-    true
+    codes.iter().enumerate().all(|(place, code)| *code == expected.get(place).copied().unwrap_or(0))
 }
 
 fn is_as_expected(line: &Line, expected: &Judged) -> bool {
-    let stair = match line.verdict {
-        Verdict::Stair => true,
-        Verdict::Relation => false,
-    };
     let monomial = Monomial {
         exponents: expected.exponents,
     };
     line.monomial == monomial
-        && stair == expected.stair
+        && line.verdict == expected.verdict
         && line.pivot == expected.pivot
         && begins(&line.combination, &expected.codes)
         && begins(&line.image, &expected.image)
@@ -84,8 +72,10 @@ fn array_works_out<'a, O: MonomialOrder>(
     let Ok(field) = Residue::new(modulus) else {
         return false;
     };
-    let mut array = PeriodicArray::unit();
-    array.set(&field, periods, cells).is_ok() && works_out(&array, &field, order, expected)
+    match PeriodicArray::new(&field, periods, cells) {
+        Ok(array) => works_out(&array, &field, order, expected),
+        Err(_) => false,
+    }
 }
 
 #[test]
@@ -113,11 +103,8 @@ fn small(rt: HostRuntime) {
 
 #[test]
 fn binary(rt: HostRuntime) -> Result<(), Fail> {
-    let Ok(field) = Binary::new(2) else {
-        return Err(Fail::new("degree 2 is refused"));
-    };
-    let mut array = PeriodicArray::unit();
-    assert!(rt; array.set(&field, &[3], &[1, 2, 3]).is_ok());
+    let field: Binary = listed(2)?;
+    let array = PeriodicArray::new(&field, &[3], &[1, 2, 3])?;
     assert!(rt; works_out(&array, &field, &Graded, &POWERS));
     Ok(())
 }
@@ -131,11 +118,8 @@ const STRIP: [u16; 16] = [1, 0, 0, 0, 0, 0, 0, 0, 65520, 0, 0, 0, 0, 0, 0, 0];
 
 #[test]
 fn cube(rt: HostRuntime) -> Result<(), Fail> {
-    let Ok(binary) = Binary::new(8) else {
-        return Err(Fail::new("degree 8 is refused"));
-    };
-    let mut array = PeriodicArray::unit();
-    assert!(rt; array.set(&binary, &[4, 3, 2], &CUBE).is_ok());
+    let binary: Binary = listed(8)?;
+    let array = PeriodicArray::new(&binary, &[4, 3, 2], &CUBE)?;
     let graded = works_out(&array, &binary, &Graded, &CUBE_BINARY);
     let lexicographic = array_works_out(2, &[4, 3, 2], &CUBE, &Lexicographic, &CUBE_LEXICOGRAPHIC);
     assert!(rt; graded && lexicographic);
@@ -157,11 +141,8 @@ fn strip(rt: HostRuntime) -> Result<(), Fail> {
 
 #[test]
 fn points(rt: HostRuntime) -> Result<(), Fail> {
-    let Ok(field) = Residue::new(5) else {
-        return Err(Fail::new("modulus 5 is refused"));
-    };
-    let mut corners = PointSet::unit();
-    assert!(rt; corners.set(&field, 2, 3, &[0, 0, 1, 0, 0, 1]).is_ok());
+    let field: Residue = listed(5)?;
+    let corners = PointSet::new(&field, 2, 3, &[0, 0, 1, 0, 0, 1])?;
     assert!(rt; works_out(&corners, &field, &Graded, &CORNERS));
     Ok(())
 }

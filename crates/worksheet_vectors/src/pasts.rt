@@ -1,4 +1,5 @@
 // Sheets with wrong calls between the right ones, and sheets of 0, 1 and exactly enough lines.
+use crate::kinds::listed;
 use fields::Residue;
 use monomials::{Graded, Monomial};
 use polynomials::Term;
@@ -10,20 +11,12 @@ use worksheet::{Ending, Worksheet};
 
 const CELLS: [u16; 10] = [3, 5, 9, 6, 0, 10, 8, 4, 7, 2];
 
-fn residues_by(modulus: u16) -> Result<Residue, Fail> {
-    match Residue::new(modulus) {
-        Ok(field) => Ok(field),
-        Err(_) => Err(Fail::new("the modulus is refused")),
-    }
-}
-
 // Wrong calls change nothing: the sheet ends as it would have without them.
 #[test]
 fn wrong_calls_between(rt: HostRuntime) -> Result<(), Fail> {
-    let field = residues_by(11)?;
-    let other = residues_by(7)?;
-    let mut array = PeriodicArray::unit();
-    assert!(rt; array.set(&field, &[10], &CELLS).is_ok());
+    let field: Residue = listed(11)?;
+    let other: Residue = listed(7)?;
+    let array = PeriodicArray::new(&field, &[10], &CELLS)?;
     let mut lines = [Line::unused(); 3];
     let mut sheet = Worksheet::open(&array, &field, &mut lines);
     let u = Monomial {
@@ -46,9 +39,8 @@ fn wrong_calls_between(rt: HostRuntime) -> Result<(), Fail> {
 // u² leaves 3u + 9, and the codes 0 and 1 are refilled to 3 at u².
 #[test]
 fn remainder_and_refill(rt: HostRuntime) -> Result<(), Fail> {
-    let field = residues_by(11)?;
-    let mut array = PeriodicArray::unit();
-    assert!(rt; array.set(&field, &[10], &CELLS).is_ok());
+    let field: Residue = listed(11)?;
+    let array = PeriodicArray::new(&field, &[10], &CELLS)?;
     let mut lines = [Line::unused(); 3];
     let mut sheet = Worksheet::open(&array, &field, &mut lines);
     assert!(rt; sheet.run(&array, &field, &Graded).is_ok());
@@ -73,9 +65,8 @@ fn remainder_and_refill(rt: HostRuntime) -> Result<(), Fail> {
 
 // How many lines a run over so many lent lines judges, and whether it finished.
 fn run_over(rt: &impl Abort, lines: &mut [Line]) -> Result<(usize, bool), Fail> {
-    let field = residues_by(11)?;
-    let mut array = PeriodicArray::unit();
-    assert!(rt; array.set(&field, &[10], &CELLS).is_ok());
+    let field: Residue = listed(11)?;
+    let array = PeriodicArray::new(&field, &[10], &CELLS)?;
     let mut sheet = Worksheet::open(&array, &field, lines);
     match sheet.run(&array, &field, &Graded) {
         Ok(ran) => match ran.ending {

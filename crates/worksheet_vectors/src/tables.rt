@@ -1,10 +1,12 @@
 // Judged lines of small patterns, computed by other programs: for each monomial the combination that clears the earlier pivots.
 
+use rows::Verdict;
+
 // What a line should hold: its first codes; all others are 0.
 #[derive(Clone, Copy)]
 pub(crate) struct Judged {
     pub(crate) exponents: [u16; 4],
-    pub(crate) stair: bool,
+    pub(crate) verdict: Verdict,
     pub(crate) codes: [u16; 8],
     pub(crate) image: [u16; 24],
     pub(crate) pivot: u8,
@@ -13,7 +15,7 @@ pub(crate) struct Judged {
 pub(crate) const SEQUENCE: [Judged; 3] = [
     Judged {
         exponents: [0, 0, 0, 0],
-        stair: true,
+        verdict: Verdict::Stair,
         codes: [0, 0, 0, 0, 0, 0, 0, 0],
         image: [
             3, 5, 9, 6, 0, 10, 8, 4, 7, 2, 0, 0, 0, 0, 0, 0, 0, 0, 0, 0, 0, 0, 0, 0,
@@ -22,7 +24,7 @@ pub(crate) const SEQUENCE: [Judged; 3] = [
     },
     Judged {
         exponents: [1, 0, 0, 0],
-        stair: true,
+        verdict: Verdict::Stair,
         codes: [2, 0, 0, 0, 0, 0, 0, 0],
         image: [
             0, 8, 2, 1, 10, 6, 9, 4, 5, 7, 0, 0, 0, 0, 0, 0, 0, 0, 0, 0, 0, 0, 0, 0,
@@ -31,7 +33,7 @@ pub(crate) const SEQUENCE: [Judged; 3] = [
     },
     Judged {
         exponents: [2, 0, 0, 0],
-        stair: false,
+        verdict: Verdict::Relation,
         codes: [2, 8, 0, 0, 0, 0, 0, 0],
         image: [
             0, 0, 0, 0, 0, 0, 0, 0, 0, 0, 0, 0, 0, 0, 0, 0, 0, 0, 0, 0, 0, 0, 0, 0,
@@ -43,7 +45,7 @@ pub(crate) const SEQUENCE: [Judged; 3] = [
 pub(crate) const SQUARE_GRADED: [Judged; 4] = [
     Judged {
         exponents: [0, 0, 0, 0],
-        stair: true,
+        verdict: Verdict::Stair,
         codes: [0, 0, 0, 0, 0, 0, 0, 0],
         image: [
             1, 0, 0, 1, 0, 0, 0, 0, 0, 0, 0, 0, 0, 0, 0, 0, 0, 0, 0, 0, 0, 0, 0, 0,
@@ -52,7 +54,7 @@ pub(crate) const SQUARE_GRADED: [Judged; 4] = [
     },
     Judged {
         exponents: [0, 1, 0, 0],
-        stair: true,
+        verdict: Verdict::Stair,
         codes: [0, 0, 0, 0, 0, 0, 0, 0],
         image: [
             0, 1, 1, 0, 0, 0, 0, 0, 0, 0, 0, 0, 0, 0, 0, 0, 0, 0, 0, 0, 0, 0, 0, 0,
@@ -61,7 +63,7 @@ pub(crate) const SQUARE_GRADED: [Judged; 4] = [
     },
     Judged {
         exponents: [1, 0, 0, 0],
-        stair: false,
+        verdict: Verdict::Relation,
         codes: [0, 1, 0, 0, 0, 0, 0, 0],
         image: [
             0, 0, 0, 0, 0, 0, 0, 0, 0, 0, 0, 0, 0, 0, 0, 0, 0, 0, 0, 0, 0, 0, 0, 0,
@@ -70,7 +72,7 @@ pub(crate) const SQUARE_GRADED: [Judged; 4] = [
     },
     Judged {
         exponents: [0, 2, 0, 0],
-        stair: false,
+        verdict: Verdict::Relation,
         codes: [1, 0, 0, 0, 0, 0, 0, 0],
         image: [
             0, 0, 0, 0, 0, 0, 0, 0, 0, 0, 0, 0, 0, 0, 0, 0, 0, 0, 0, 0, 0, 0, 0, 0,
@@ -82,7 +84,7 @@ pub(crate) const SQUARE_GRADED: [Judged; 4] = [
 pub(crate) const SQUARE_LEXICOGRAPHIC: [Judged; 4] = [
     Judged {
         exponents: [0, 0, 0, 0],
-        stair: true,
+        verdict: Verdict::Stair,
         codes: [0, 0, 0, 0, 0, 0, 0, 0],
         image: [
             1, 0, 0, 1, 0, 0, 0, 0, 0, 0, 0, 0, 0, 0, 0, 0, 0, 0, 0, 0, 0, 0, 0, 0,
@@ -91,7 +93,7 @@ pub(crate) const SQUARE_LEXICOGRAPHIC: [Judged; 4] = [
     },
     Judged {
         exponents: [0, 1, 0, 0],
-        stair: true,
+        verdict: Verdict::Stair,
         codes: [0, 0, 0, 0, 0, 0, 0, 0],
         image: [
             0, 1, 1, 0, 0, 0, 0, 0, 0, 0, 0, 0, 0, 0, 0, 0, 0, 0, 0, 0, 0, 0, 0, 0,
@@ -100,7 +102,7 @@ pub(crate) const SQUARE_LEXICOGRAPHIC: [Judged; 4] = [
     },
     Judged {
         exponents: [0, 2, 0, 0],
-        stair: false,
+        verdict: Verdict::Relation,
         codes: [1, 0, 0, 0, 0, 0, 0, 0],
         image: [
             0, 0, 0, 0, 0, 0, 0, 0, 0, 0, 0, 0, 0, 0, 0, 0, 0, 0, 0, 0, 0, 0, 0, 0,
@@ -109,7 +111,7 @@ pub(crate) const SQUARE_LEXICOGRAPHIC: [Judged; 4] = [
     },
     Judged {
         exponents: [1, 0, 0, 0],
-        stair: false,
+        verdict: Verdict::Relation,
         codes: [0, 1, 0, 0, 0, 0, 0, 0],
         image: [
             0, 0, 0, 0, 0, 0, 0, 0, 0, 0, 0, 0, 0, 0, 0, 0, 0, 0, 0, 0, 0, 0, 0, 0,
@@ -121,7 +123,7 @@ pub(crate) const SQUARE_LEXICOGRAPHIC: [Judged; 4] = [
 pub(crate) const SQUARE_ELEVEN: [Judged; 4] = [
     Judged {
         exponents: [0, 0, 0, 0],
-        stair: true,
+        verdict: Verdict::Stair,
         codes: [0, 0, 0, 0, 0, 0, 0, 0],
         image: [
             3, 1, 10, 8, 0, 0, 0, 0, 0, 0, 0, 0, 0, 0, 0, 0, 0, 0, 0, 0, 0, 0, 0, 0,
@@ -130,7 +132,7 @@ pub(crate) const SQUARE_ELEVEN: [Judged; 4] = [
     },
     Judged {
         exponents: [0, 1, 0, 0],
-        stair: true,
+        verdict: Verdict::Stair,
         codes: [4, 0, 0, 0, 0, 0, 0, 0],
         image: [
             0, 1, 10, 0, 0, 0, 0, 0, 0, 0, 0, 0, 0, 0, 0, 0, 0, 0, 0, 0, 0, 0, 0, 0,
@@ -139,7 +141,7 @@ pub(crate) const SQUARE_ELEVEN: [Judged; 4] = [
     },
     Judged {
         exponents: [1, 0, 0, 0],
-        stair: false,
+        verdict: Verdict::Relation,
         codes: [0, 1, 0, 0, 0, 0, 0, 0],
         image: [
             0, 0, 0, 0, 0, 0, 0, 0, 0, 0, 0, 0, 0, 0, 0, 0, 0, 0, 0, 0, 0, 0, 0, 0,
@@ -148,7 +150,7 @@ pub(crate) const SQUARE_ELEVEN: [Judged; 4] = [
     },
     Judged {
         exponents: [0, 2, 0, 0],
-        stair: false,
+        verdict: Verdict::Relation,
         codes: [10, 0, 0, 0, 0, 0, 0, 0],
         image: [
             0, 0, 0, 0, 0, 0, 0, 0, 0, 0, 0, 0, 0, 0, 0, 0, 0, 0, 0, 0, 0, 0, 0, 0,
@@ -159,7 +161,7 @@ pub(crate) const SQUARE_ELEVEN: [Judged; 4] = [
 
 pub(crate) const ZEROS: [Judged; 1] = [Judged {
     exponents: [0, 0, 0, 0],
-    stair: false,
+    verdict: Verdict::Relation,
     codes: [0, 0, 0, 0, 0, 0, 0, 0],
     image: [
         0, 0, 0, 0, 0, 0, 0, 0, 0, 0, 0, 0, 0, 0, 0, 0, 0, 0, 0, 0, 0, 0, 0, 0,
@@ -170,7 +172,7 @@ pub(crate) const ZEROS: [Judged; 1] = [Judged {
 pub(crate) const ONE_CELL: [Judged; 2] = [
     Judged {
         exponents: [0, 0, 0, 0],
-        stair: true,
+        verdict: Verdict::Stair,
         codes: [0, 0, 0, 0, 0, 0, 0, 0],
         image: [
             4, 0, 0, 0, 0, 0, 0, 0, 0, 0, 0, 0, 0, 0, 0, 0, 0, 0, 0, 0, 0, 0, 0, 0,
@@ -179,7 +181,7 @@ pub(crate) const ONE_CELL: [Judged; 2] = [
     },
     Judged {
         exponents: [1, 0, 0, 0],
-        stair: false,
+        verdict: Verdict::Relation,
         codes: [4, 0, 0, 0, 0, 0, 0, 0],
         image: [
             0, 0, 0, 0, 0, 0, 0, 0, 0, 0, 0, 0, 0, 0, 0, 0, 0, 0, 0, 0, 0, 0, 0, 0,
@@ -191,7 +193,7 @@ pub(crate) const ONE_CELL: [Judged; 2] = [
 pub(crate) const POWERS: [Judged; 2] = [
     Judged {
         exponents: [0, 0, 0, 0],
-        stair: true,
+        verdict: Verdict::Stair,
         codes: [0, 0, 0, 0, 0, 0, 0, 0],
         image: [
             1, 2, 3, 0, 0, 0, 0, 0, 0, 0, 0, 0, 0, 0, 0, 0, 0, 0, 0, 0, 0, 0, 0, 0,
@@ -200,7 +202,7 @@ pub(crate) const POWERS: [Judged; 2] = [
     },
     Judged {
         exponents: [1, 0, 0, 0],
-        stair: false,
+        verdict: Verdict::Relation,
         codes: [2, 0, 0, 0, 0, 0, 0, 0],
         image: [
             0, 0, 0, 0, 0, 0, 0, 0, 0, 0, 0, 0, 0, 0, 0, 0, 0, 0, 0, 0, 0, 0, 0, 0,
@@ -212,7 +214,7 @@ pub(crate) const POWERS: [Judged; 2] = [
 pub(crate) const CORNERS: [Judged; 6] = [
     Judged {
         exponents: [0, 0, 0, 0],
-        stair: true,
+        verdict: Verdict::Stair,
         codes: [0, 0, 0, 0, 0, 0, 0, 0],
         image: [
             1, 1, 1, 0, 0, 0, 0, 0, 0, 0, 0, 0, 0, 0, 0, 0, 0, 0, 0, 0, 0, 0, 0, 0,
@@ -221,7 +223,7 @@ pub(crate) const CORNERS: [Judged; 6] = [
     },
     Judged {
         exponents: [0, 1, 0, 0],
-        stair: true,
+        verdict: Verdict::Stair,
         codes: [0, 0, 0, 0, 0, 0, 0, 0],
         image: [
             0, 0, 1, 0, 0, 0, 0, 0, 0, 0, 0, 0, 0, 0, 0, 0, 0, 0, 0, 0, 0, 0, 0, 0,
@@ -230,7 +232,7 @@ pub(crate) const CORNERS: [Judged; 6] = [
     },
     Judged {
         exponents: [1, 0, 0, 0],
-        stair: true,
+        verdict: Verdict::Stair,
         codes: [0, 0, 0, 0, 0, 0, 0, 0],
         image: [
             0, 1, 0, 0, 0, 0, 0, 0, 0, 0, 0, 0, 0, 0, 0, 0, 0, 0, 0, 0, 0, 0, 0, 0,
@@ -239,7 +241,7 @@ pub(crate) const CORNERS: [Judged; 6] = [
     },
     Judged {
         exponents: [0, 2, 0, 0],
-        stair: false,
+        verdict: Verdict::Relation,
         codes: [0, 4, 0, 0, 0, 0, 0, 0],
         image: [
             0, 0, 0, 0, 0, 0, 0, 0, 0, 0, 0, 0, 0, 0, 0, 0, 0, 0, 0, 0, 0, 0, 0, 0,
@@ -248,7 +250,7 @@ pub(crate) const CORNERS: [Judged; 6] = [
     },
     Judged {
         exponents: [1, 1, 0, 0],
-        stair: false,
+        verdict: Verdict::Relation,
         codes: [0, 0, 0, 0, 0, 0, 0, 0],
         image: [
             0, 0, 0, 0, 0, 0, 0, 0, 0, 0, 0, 0, 0, 0, 0, 0, 0, 0, 0, 0, 0, 0, 0, 0,
@@ -257,7 +259,7 @@ pub(crate) const CORNERS: [Judged; 6] = [
     },
     Judged {
         exponents: [2, 0, 0, 0],
-        stair: false,
+        verdict: Verdict::Relation,
         codes: [0, 0, 4, 0, 0, 0, 0, 0],
         image: [
             0, 0, 0, 0, 0, 0, 0, 0, 0, 0, 0, 0, 0, 0, 0, 0, 0, 0, 0, 0, 0, 0, 0, 0,
@@ -269,7 +271,7 @@ pub(crate) const CORNERS: [Judged; 6] = [
 pub(crate) const AXES: [Judged; 8] = [
     Judged {
         exponents: [0, 0, 0, 0],
-        stair: true,
+        verdict: Verdict::Stair,
         codes: [0, 0, 0, 0, 0, 0, 0, 0],
         image: [
             1, 4, 2, 0, 6, 3, 0, 0, 0, 0, 0, 0, 0, 0, 0, 0, 0, 0, 0, 0, 0, 0, 0, 0,
@@ -278,7 +280,7 @@ pub(crate) const AXES: [Judged; 8] = [
     },
     Judged {
         exponents: [0, 1, 0, 0],
-        stair: true,
+        verdict: Verdict::Stair,
         codes: [5, 0, 0, 0, 0, 0, 0, 0],
         image: [
             0, 6, 2, 3, 3, 5, 0, 0, 0, 0, 0, 0, 0, 0, 0, 0, 0, 0, 0, 0, 0, 0, 0, 0,
@@ -287,7 +289,7 @@ pub(crate) const AXES: [Judged; 8] = [
     },
     Judged {
         exponents: [1, 0, 0, 0],
-        stair: true,
+        verdict: Verdict::Stair,
         codes: [5, 6, 0, 0, 0, 0, 0, 0],
         image: [
             0, 0, 4, 6, 4, 3, 0, 0, 0, 0, 0, 0, 0, 0, 0, 0, 0, 0, 0, 0, 0, 0, 0, 0,
@@ -296,7 +298,7 @@ pub(crate) const AXES: [Judged; 8] = [
     },
     Judged {
         exponents: [0, 2, 0, 0],
-        stair: true,
+        verdict: Verdict::Stair,
         codes: [6, 6, 1, 0, 0, 0, 0, 0],
         image: [
             0, 0, 0, 3, 5, 6, 0, 0, 0, 0, 0, 0, 0, 0, 0, 0, 0, 0, 0, 0, 0, 0, 0, 0,
@@ -305,7 +307,7 @@ pub(crate) const AXES: [Judged; 8] = [
     },
     Judged {
         exponents: [1, 1, 0, 0],
-        stair: true,
+        verdict: Verdict::Stair,
         codes: [0, 6, 3, 3, 0, 0, 0, 0],
         image: [
             0, 0, 0, 0, 4, 1, 0, 0, 0, 0, 0, 0, 0, 0, 0, 0, 0, 0, 0, 0, 0, 0, 0, 0,
@@ -314,7 +316,7 @@ pub(crate) const AXES: [Judged; 8] = [
     },
     Judged {
         exponents: [2, 0, 0, 0],
-        stair: false,
+        verdict: Verdict::Relation,
         codes: [6, 0, 0, 0, 0, 0, 0, 0],
         image: [
             0, 0, 0, 0, 0, 0, 0, 0, 0, 0, 0, 0, 0, 0, 0, 0, 0, 0, 0, 0, 0, 0, 0, 0,
@@ -323,7 +325,7 @@ pub(crate) const AXES: [Judged; 8] = [
     },
     Judged {
         exponents: [0, 3, 0, 0],
-        stair: false,
+        verdict: Verdict::Relation,
         codes: [6, 0, 0, 0, 0, 0, 0, 0],
         image: [
             0, 0, 0, 0, 0, 0, 0, 0, 0, 0, 0, 0, 0, 0, 0, 0, 0, 0, 0, 0, 0, 0, 0, 0,
@@ -332,7 +334,7 @@ pub(crate) const AXES: [Judged; 8] = [
     },
     Judged {
         exponents: [1, 2, 0, 0],
-        stair: true,
+        verdict: Verdict::Stair,
         codes: [1, 1, 5, 5, 6, 0, 0, 0],
         image: [
             0, 0, 0, 0, 0, 3, 0, 0, 0, 0, 0, 0, 0, 0, 0, 0, 0, 0, 0, 0, 0, 0, 0, 0,
@@ -344,7 +346,7 @@ pub(crate) const AXES: [Judged; 8] = [
 pub(crate) const CUBE_LEXICOGRAPHIC: [Judged; 11] = [
     Judged {
         exponents: [0, 0, 0, 0],
-        stair: true,
+        verdict: Verdict::Stair,
         codes: [0, 0, 0, 0, 0, 0, 0, 0],
         image: [
             1, 0, 0, 0, 0, 0, 0, 0, 1, 0, 0, 0, 0, 0, 1, 0, 0, 0, 0, 0, 0, 0, 1, 0,
@@ -353,7 +355,7 @@ pub(crate) const CUBE_LEXICOGRAPHIC: [Judged; 11] = [
     },
     Judged {
         exponents: [0, 0, 1, 0],
-        stair: true,
+        verdict: Verdict::Stair,
         codes: [0, 0, 0, 0, 0, 0, 0, 0],
         image: [
             0, 0, 1, 0, 0, 0, 0, 0, 0, 0, 1, 0, 1, 0, 0, 0, 0, 0, 0, 0, 1, 0, 0, 0,
@@ -362,7 +364,7 @@ pub(crate) const CUBE_LEXICOGRAPHIC: [Judged; 11] = [
     },
     Judged {
         exponents: [0, 0, 2, 0],
-        stair: false,
+        verdict: Verdict::Relation,
         codes: [1, 0, 0, 0, 0, 0, 0, 0],
         image: [
             0, 0, 0, 0, 0, 0, 0, 0, 0, 0, 0, 0, 0, 0, 0, 0, 0, 0, 0, 0, 0, 0, 0, 0,
@@ -371,7 +373,7 @@ pub(crate) const CUBE_LEXICOGRAPHIC: [Judged; 11] = [
     },
     Judged {
         exponents: [0, 1, 0, 0],
-        stair: true,
+        verdict: Verdict::Stair,
         codes: [0, 0, 0, 0, 0, 0, 0, 0],
         image: [
             0, 0, 0, 0, 1, 0, 0, 0, 1, 0, 0, 0, 0, 0, 0, 0, 0, 0, 1, 0, 0, 0, 1, 0,
@@ -380,7 +382,7 @@ pub(crate) const CUBE_LEXICOGRAPHIC: [Judged; 11] = [
     },
     Judged {
         exponents: [0, 1, 1, 0],
-        stair: true,
+        verdict: Verdict::Stair,
         codes: [0, 0, 0, 0, 0, 0, 0, 0],
         image: [
             0, 0, 0, 0, 0, 0, 1, 0, 0, 0, 1, 0, 0, 0, 0, 0, 1, 0, 0, 0, 1, 0, 0, 0,
@@ -389,7 +391,7 @@ pub(crate) const CUBE_LEXICOGRAPHIC: [Judged; 11] = [
     },
     Judged {
         exponents: [0, 2, 0, 0],
-        stair: false,
+        verdict: Verdict::Relation,
         codes: [1, 0, 1, 0, 0, 0, 0, 0],
         image: [
             0, 0, 0, 0, 0, 0, 0, 0, 0, 0, 0, 0, 0, 0, 0, 0, 0, 0, 0, 0, 0, 0, 0, 0,
@@ -398,7 +400,7 @@ pub(crate) const CUBE_LEXICOGRAPHIC: [Judged; 11] = [
     },
     Judged {
         exponents: [1, 0, 0, 0],
-        stair: true,
+        verdict: Verdict::Stair,
         codes: [0, 0, 0, 0, 0, 0, 0, 0],
         image: [
             0, 0, 0, 1, 0, 0, 0, 0, 0, 0, 0, 1, 0, 1, 0, 0, 0, 0, 0, 0, 0, 1, 0, 0,
@@ -407,7 +409,7 @@ pub(crate) const CUBE_LEXICOGRAPHIC: [Judged; 11] = [
     },
     Judged {
         exponents: [1, 0, 1, 0],
-        stair: true,
+        verdict: Verdict::Stair,
         codes: [0, 0, 0, 0, 0, 0, 0, 0],
         image: [
             0, 1, 0, 0, 0, 0, 0, 0, 0, 1, 0, 0, 0, 0, 0, 1, 0, 0, 0, 0, 0, 0, 0, 1,
@@ -416,7 +418,7 @@ pub(crate) const CUBE_LEXICOGRAPHIC: [Judged; 11] = [
     },
     Judged {
         exponents: [1, 1, 0, 0],
-        stair: true,
+        verdict: Verdict::Stair,
         codes: [0, 0, 0, 0, 0, 0, 0, 0],
         image: [
             0, 0, 0, 0, 0, 0, 0, 1, 0, 0, 0, 1, 0, 0, 0, 0, 0, 1, 0, 0, 0, 1, 0, 0,
@@ -425,7 +427,7 @@ pub(crate) const CUBE_LEXICOGRAPHIC: [Judged; 11] = [
     },
     Judged {
         exponents: [1, 1, 1, 0],
-        stair: true,
+        verdict: Verdict::Stair,
         codes: [0, 0, 0, 0, 0, 0, 0, 0],
         image: [
             0, 0, 0, 0, 0, 1, 0, 0, 0, 1, 0, 0, 0, 0, 0, 0, 0, 0, 0, 1, 0, 0, 0, 1,
@@ -434,7 +436,7 @@ pub(crate) const CUBE_LEXICOGRAPHIC: [Judged; 11] = [
     },
     Judged {
         exponents: [2, 0, 0, 0],
-        stair: false,
+        verdict: Verdict::Relation,
         codes: [0, 1, 0, 0, 0, 0, 0, 0],
         image: [
             0, 0, 0, 0, 0, 0, 0, 0, 0, 0, 0, 0, 0, 0, 0, 0, 0, 0, 0, 0, 0, 0, 0, 0,
@@ -446,7 +448,7 @@ pub(crate) const CUBE_LEXICOGRAPHIC: [Judged; 11] = [
 pub(crate) const CUBE_BINARY: [Judged; 11] = [
     Judged {
         exponents: [0, 0, 0, 0],
-        stair: true,
+        verdict: Verdict::Stair,
         codes: [0, 0, 0, 0, 0, 0, 0, 0],
         image: [
             1, 0, 0, 0, 0, 0, 0, 0, 1, 0, 0, 0, 0, 0, 1, 0, 0, 0, 0, 0, 0, 0, 1, 0,
@@ -455,7 +457,7 @@ pub(crate) const CUBE_BINARY: [Judged; 11] = [
     },
     Judged {
         exponents: [0, 0, 1, 0],
-        stair: true,
+        verdict: Verdict::Stair,
         codes: [0, 0, 0, 0, 0, 0, 0, 0],
         image: [
             0, 0, 1, 0, 0, 0, 0, 0, 0, 0, 1, 0, 1, 0, 0, 0, 0, 0, 0, 0, 1, 0, 0, 0,
@@ -464,7 +466,7 @@ pub(crate) const CUBE_BINARY: [Judged; 11] = [
     },
     Judged {
         exponents: [0, 1, 0, 0],
-        stair: true,
+        verdict: Verdict::Stair,
         codes: [0, 0, 0, 0, 0, 0, 0, 0],
         image: [
             0, 0, 0, 0, 1, 0, 0, 0, 1, 0, 0, 0, 0, 0, 0, 0, 0, 0, 1, 0, 0, 0, 1, 0,
@@ -473,7 +475,7 @@ pub(crate) const CUBE_BINARY: [Judged; 11] = [
     },
     Judged {
         exponents: [1, 0, 0, 0],
-        stair: true,
+        verdict: Verdict::Stair,
         codes: [0, 0, 0, 0, 0, 0, 0, 0],
         image: [
             0, 0, 0, 1, 0, 0, 0, 0, 0, 0, 0, 1, 0, 1, 0, 0, 0, 0, 0, 0, 0, 1, 0, 0,
@@ -482,7 +484,7 @@ pub(crate) const CUBE_BINARY: [Judged; 11] = [
     },
     Judged {
         exponents: [0, 0, 2, 0],
-        stair: false,
+        verdict: Verdict::Relation,
         codes: [1, 0, 0, 0, 0, 0, 0, 0],
         image: [
             0, 0, 0, 0, 0, 0, 0, 0, 0, 0, 0, 0, 0, 0, 0, 0, 0, 0, 0, 0, 0, 0, 0, 0,
@@ -491,7 +493,7 @@ pub(crate) const CUBE_BINARY: [Judged; 11] = [
     },
     Judged {
         exponents: [0, 1, 1, 0],
-        stair: true,
+        verdict: Verdict::Stair,
         codes: [0, 0, 0, 0, 0, 0, 0, 0],
         image: [
             0, 0, 0, 0, 0, 0, 1, 0, 0, 0, 1, 0, 0, 0, 0, 0, 1, 0, 0, 0, 1, 0, 0, 0,
@@ -500,7 +502,7 @@ pub(crate) const CUBE_BINARY: [Judged; 11] = [
     },
     Judged {
         exponents: [0, 2, 0, 0],
-        stair: false,
+        verdict: Verdict::Relation,
         codes: [1, 0, 1, 0, 0, 0, 0, 0],
         image: [
             0, 0, 0, 0, 0, 0, 0, 0, 0, 0, 0, 0, 0, 0, 0, 0, 0, 0, 0, 0, 0, 0, 0, 0,
@@ -509,7 +511,7 @@ pub(crate) const CUBE_BINARY: [Judged; 11] = [
     },
     Judged {
         exponents: [1, 0, 1, 0],
-        stair: true,
+        verdict: Verdict::Stair,
         codes: [0, 0, 0, 0, 0, 0, 0, 0],
         image: [
             0, 1, 0, 0, 0, 0, 0, 0, 0, 1, 0, 0, 0, 0, 0, 1, 0, 0, 0, 0, 0, 0, 0, 1,
@@ -518,7 +520,7 @@ pub(crate) const CUBE_BINARY: [Judged; 11] = [
     },
     Judged {
         exponents: [1, 1, 0, 0],
-        stair: true,
+        verdict: Verdict::Stair,
         codes: [0, 0, 0, 0, 0, 0, 0, 0],
         image: [
             0, 0, 0, 0, 0, 0, 0, 1, 0, 0, 0, 1, 0, 0, 0, 0, 0, 1, 0, 0, 0, 1, 0, 0,
@@ -527,7 +529,7 @@ pub(crate) const CUBE_BINARY: [Judged; 11] = [
     },
     Judged {
         exponents: [2, 0, 0, 0],
-        stair: false,
+        verdict: Verdict::Relation,
         codes: [0, 1, 0, 0, 0, 0, 0, 0],
         image: [
             0, 0, 0, 0, 0, 0, 0, 0, 0, 0, 0, 0, 0, 0, 0, 0, 0, 0, 0, 0, 0, 0, 0, 0,
@@ -536,7 +538,7 @@ pub(crate) const CUBE_BINARY: [Judged; 11] = [
     },
     Judged {
         exponents: [1, 1, 1, 0],
-        stair: true,
+        verdict: Verdict::Stair,
         codes: [0, 0, 0, 0, 0, 0, 0, 0],
         image: [
             0, 0, 0, 0, 0, 1, 0, 0, 0, 1, 0, 0, 0, 0, 0, 0, 0, 0, 0, 1, 0, 0, 0, 1,
@@ -548,7 +550,7 @@ pub(crate) const CUBE_BINARY: [Judged; 11] = [
 pub(crate) const STRIP_WEIGHTED: [Judged; 10] = [
     Judged {
         exponents: [0, 0, 0, 0],
-        stair: true,
+        verdict: Verdict::Stair,
         codes: [0, 0, 0, 0, 0, 0, 0, 0],
         image: [
             1, 0, 0, 0, 0, 0, 0, 0, 65520, 0, 0, 0, 0, 0, 0, 0, 0, 0, 0, 0, 0, 0, 0, 0,
@@ -557,7 +559,7 @@ pub(crate) const STRIP_WEIGHTED: [Judged; 10] = [
     },
     Judged {
         exponents: [1, 0, 0, 0],
-        stair: true,
+        verdict: Verdict::Stair,
         codes: [0, 0, 0, 0, 0, 0, 0, 0],
         image: [
             0, 1, 0, 0, 0, 0, 0, 0, 0, 65520, 0, 0, 0, 0, 0, 0, 0, 0, 0, 0, 0, 0, 0, 0,
@@ -566,7 +568,7 @@ pub(crate) const STRIP_WEIGHTED: [Judged; 10] = [
     },
     Judged {
         exponents: [2, 0, 0, 0],
-        stair: false,
+        verdict: Verdict::Relation,
         codes: [65520, 0, 0, 0, 0, 0, 0, 0],
         image: [
             0, 0, 0, 0, 0, 0, 0, 0, 0, 0, 0, 0, 0, 0, 0, 0, 0, 0, 0, 0, 0, 0, 0, 0,
@@ -575,7 +577,7 @@ pub(crate) const STRIP_WEIGHTED: [Judged; 10] = [
     },
     Judged {
         exponents: [0, 1, 0, 0],
-        stair: true,
+        verdict: Verdict::Stair,
         codes: [0, 0, 0, 0, 0, 0, 0, 0],
         image: [
             0, 0, 0, 0, 0, 0, 65520, 0, 0, 0, 0, 0, 0, 0, 1, 0, 0, 0, 0, 0, 0, 0, 0, 0,
@@ -584,7 +586,7 @@ pub(crate) const STRIP_WEIGHTED: [Judged; 10] = [
     },
     Judged {
         exponents: [1, 1, 0, 0],
-        stair: true,
+        verdict: Verdict::Stair,
         codes: [0, 0, 0, 0, 0, 0, 0, 0],
         image: [
             0, 0, 0, 0, 0, 0, 0, 65520, 0, 0, 0, 0, 0, 0, 0, 1, 0, 0, 0, 0, 0, 0, 0, 0,
@@ -593,7 +595,7 @@ pub(crate) const STRIP_WEIGHTED: [Judged; 10] = [
     },
     Judged {
         exponents: [0, 2, 0, 0],
-        stair: true,
+        verdict: Verdict::Stair,
         codes: [0, 0, 0, 0, 0, 0, 0, 0],
         image: [
             0, 0, 0, 0, 65520, 0, 0, 0, 0, 0, 0, 0, 1, 0, 0, 0, 0, 0, 0, 0, 0, 0, 0, 0,
@@ -602,7 +604,7 @@ pub(crate) const STRIP_WEIGHTED: [Judged; 10] = [
     },
     Judged {
         exponents: [1, 2, 0, 0],
-        stair: true,
+        verdict: Verdict::Stair,
         codes: [0, 0, 0, 0, 0, 0, 0, 0],
         image: [
             0, 0, 0, 0, 0, 65520, 0, 0, 0, 0, 0, 0, 0, 1, 0, 0, 0, 0, 0, 0, 0, 0, 0, 0,
@@ -611,7 +613,7 @@ pub(crate) const STRIP_WEIGHTED: [Judged; 10] = [
     },
     Judged {
         exponents: [0, 3, 0, 0],
-        stair: true,
+        verdict: Verdict::Stair,
         codes: [0, 0, 0, 0, 0, 0, 0, 0],
         image: [
             0, 0, 65520, 0, 0, 0, 0, 0, 0, 0, 1, 0, 0, 0, 0, 0, 0, 0, 0, 0, 0, 0, 0, 0,
@@ -620,7 +622,7 @@ pub(crate) const STRIP_WEIGHTED: [Judged; 10] = [
     },
     Judged {
         exponents: [1, 3, 0, 0],
-        stair: true,
+        verdict: Verdict::Stair,
         codes: [0, 0, 0, 0, 0, 0, 0, 0],
         image: [
             0, 0, 0, 65520, 0, 0, 0, 0, 0, 0, 0, 1, 0, 0, 0, 0, 0, 0, 0, 0, 0, 0, 0, 0,
@@ -629,7 +631,7 @@ pub(crate) const STRIP_WEIGHTED: [Judged; 10] = [
     },
     Judged {
         exponents: [0, 4, 0, 0],
-        stair: false,
+        verdict: Verdict::Relation,
         codes: [1, 0, 0, 0, 0, 0, 0, 0],
         image: [
             0, 0, 0, 0, 0, 0, 0, 0, 0, 0, 0, 0, 0, 0, 0, 0, 0, 0, 0, 0, 0, 0, 0, 0,
