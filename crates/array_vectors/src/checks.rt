@@ -1,5 +1,5 @@
 // Relations that hold on a pattern, and relations that fail.
-use fields::Residue;
+use fields::{ListedField, Residue};
 use polynomials::Term;
 use subjects::{Finding, PeriodicArray, check as check_relation};
 
@@ -11,14 +11,13 @@ enum Outcome {
     Refused,
 }
 
-fn answer<'a>(modulus: u16, periods: &'a [u16], cells: &'a [u16], terms: &[Term]) -> Outcome {
+fn answer(modulus: u16, periods: &[u16], cells: &[u16], terms: &[Term]) -> Outcome {
     let Ok(field) = Residue::new(modulus) else {
         return Outcome::Refused;
     };
-    let mut array = PeriodicArray::unit();
-    if array.set(&field, periods, cells).is_err() {
+    let Ok(array) = PeriodicArray::new(&field, periods, cells) else {
         return Outcome::Refused;
-    }
+    };
     match check_relation(&array, &field, terms) {
         Ok(Finding::Holds) => Outcome::Holds,
         Ok(Finding::Fails(_)) => Outcome::Fails,

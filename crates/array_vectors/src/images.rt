@@ -1,4 +1,5 @@
 // Images of monomials, and codes of the infinite array.
+use crate::kinds::listed;
 use fields::{Field, Residue};
 use monomials::Monomial;
 use std::test::Fail;
@@ -30,18 +31,10 @@ const IMAGES: [([u16; 4], usize, u16); 15] = [
     ([0, 0, 0, 0], 24, 0),
 ];
 
-fn field(modulus: u16) -> Result<Residue, Fail> {
-    match Residue::new(modulus) {
-        Ok(field) => Ok(field),
-        Err(_) => Err(Fail::new("the modulus is refused")),
-    }
-}
-
 #[test]
 fn four_axes(rt: HostRuntime) -> Result<(), Fail> {
-    let field = field(11)?;
-    let mut array = PeriodicArray::unit();
-    assert!(rt; array.set(&field, &FOUR_AXES, &FOUR_AXES_CELLS).is_ok());
+    let field: Residue = listed(11)?;
+    let array = PeriodicArray::new(&field, &FOUR_AXES, &FOUR_AXES_CELLS)?;
     assert!(rt; array.variables() == 4);
     assert!(rt; array.width() == 24);
     for (exponents, position, code) in IMAGES {
@@ -56,10 +49,9 @@ fn four_axes(rt: HostRuntime) -> Result<(), Fail> {
 // The infinite array goes on past the period, and absent axes have period 1.
 #[test]
 fn past_the_period(rt: HostRuntime) -> Result<(), Fail> {
-    let field = field(11)?;
+    let field: Residue = listed(11)?;
     let cells = [3, 5, 9, 6, 0, 10, 8, 4, 7, 2];
-    let mut array = PeriodicArray::unit();
-    assert!(rt; array.set(&field, &[10], &cells).is_ok());
+    let array = PeriodicArray::new(&field, &[10], &cells)?;
     let expected = [
         ([0, 0, 0, 0], 3),
         ([9, 0, 0, 0], 2),
@@ -76,12 +68,11 @@ fn past_the_period(rt: HostRuntime) -> Result<(), Fail> {
 // Under a later field of smaller order the cells count as their remainders.
 #[test]
 fn smaller_field(rt: HostRuntime) -> Result<(), Fail> {
-    let eleven = field(11)?;
-    let seven = field(7)?;
+    let eleven: Residue = listed(11)?;
+    let seven: Residue = listed(7)?;
     let cells = [3, 5, 9, 6, 0, 10, 8, 4, 7, 2];
     let remainders = [3, 5, 2, 6, 0, 3, 1, 4, 0, 2];
-    let mut array = PeriodicArray::unit();
-    assert!(rt; array.set(&eleven, &[10], &cells).is_ok());
+    let array = PeriodicArray::new(&eleven, &[10], &cells)?;
     let one = Monomial { exponents: [0; 4] };
     for (position, code) in remainders.iter().enumerate() {
         assert_eq!(rt; array.image(&seven, &one, position), *code);
@@ -92,7 +83,7 @@ fn smaller_field(rt: HostRuntime) -> Result<(), Fail> {
 // The unit array has one cell, with code 1.
 #[test]
 fn unit(rt: HostRuntime) -> Result<(), Fail> {
-    let field = field(2)?;
+    let field: Residue = listed(2)?;
     let array = PeriodicArray::unit();
     assert!(rt; array.variables() == 1);
     assert!(rt; array.width() == 1);

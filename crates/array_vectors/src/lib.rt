@@ -6,4 +6,6 @@ mod checks;
 #[cfg(test)]
 mod images;
 #[cfg(test)]
+mod kinds;
+#[cfg(test)]
 mod refusals;

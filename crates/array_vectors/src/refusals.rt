@@ -1,6 +1,7 @@
 // Refusals of arrays and of terms, on both sides of each limit, modulo 11.
-use faults::{Fault, Layer, Refusal};
-use fields::Residue;
+use crate::kinds::listed;
+use faults::{Layer, Refusal};
+use fields::{ListedField, Residue};
 use monomials::Monomial;
 use polynomials::Term;
 use std::process::Abort;
@@ -14,18 +15,8 @@ const TAKEN: Refusal = Refusal {
     layer: Layer::File,
 };
 
-// the answer of a subject, and of the worksheet's layer
-fn subject(ground: u8, place: usize) -> Refusal {
-    let layer = Layer::Subject;
-    Refusal {
-        ground,
-        place,
-        layer,
-    }
-}
-
-fn worksheet(ground: u8, place: usize) -> Refusal {
-    let layer = Layer::Worksheet;
+// the answer of a layer
+fn refused(layer: Layer, ground: u8, place: usize) -> Refusal {
     Refusal {
         ground,
         place,
@@ -41,7 +32,7 @@ fn array<'a>(periods: &'a [u16], cells: &'a [u16]) -> Refusal {
     let mut array = PeriodicArray::unit();
     match array.set(&field, periods, cells) {
         Ok(()) => TAKEN,
-        Err(fault) => fault.refusal(),
+        Err(fault) => Refusal::from(fault),
     }
 }
 
@@ -54,7 +45,7 @@ fn terms(terms: &[Term]) -> Refusal {
     let _ = array.set(&field, &[1, 1], &[1]);
     match check_relation(&array, &field, terms) {
         Ok(_) => TAKEN,
-        Err(fault) => fault.refusal(),
+        Err(fault) => Refusal::from(fault),
     }
 }
 
@@ -70,11 +61,11 @@ fn variables(rt: HostRuntime) {
     compared(
         &rt,
         &[
-            (array(&[], &[1]), subject(6, 0)),
+            (array(&[], &[1]), refused(Layer::Subject, 6, 0)),
             (array(&[1], &[1]), TAKEN),
             (array(&[1, 1, 1, 1], &[1]), TAKEN),
-            (array(&[1, 1, 1, 1, 1], &[1]), subject(6, 0)),
-            (array(&[0, 0, 0, 0, 0], &[]), subject(6, 0)),
+            (array(&[1, 1, 1, 1, 1], &[1]), refused(Layer::Subject, 6, 0)),
+            (array(&[0, 0, 0, 0, 0], &[]), refused(Layer::Subject, 6, 0)),
         ],
     );
 }
@@ -86,12 +77,12 @@ fn products_of_periods(rt: HostRuntime) {
         &rt,
         &[
             (array(&[64], &cells), TAKEN),
-            (array(&[65], &cells), subject(7, 0)),
+            (array(&[65], &cells), refused(Layer::Subject, 7, 0)),
             (array(&[8, 8], &cells), TAKEN),
             (array(&[2, 4, 4, 2], &cells), TAKEN),
-            (array(&[13, 5], &cells), subject(7, 1)),
-            (array(&[8, 8, 2], &cells), subject(7, 2)),
-            (array(&[2, 4, 4, 3], &cells), subject(7, 3)),
+            (array(&[13, 5], &cells), refused(Layer::Subject, 7, 1)),
+            (array(&[8, 8, 2], &cells), refused(Layer::Subject, 7, 2)),
+            (array(&[2, 4, 4, 3], &cells), refused(Layer::Subject, 7, 3)),
         ],
     );
 }
@@ -102,11 +93,11 @@ fn periods_at_fault(rt: HostRuntime) {
     compared(
         &rt,
         &[
-            (array(&[0], &[]), subject(7, 0)),
-            (array(&[3, 0, 2], &[]), subject(7, 1)),
-            (array(&[65, 0], &[]), subject(7, 0)),
-            (array(&largest, &[]), subject(7, 0)),
-            (array(&[0], &[11]), subject(7, 0)),
+            (array(&[0], &[]), refused(Layer::Subject, 7, 0)),
+            (array(&[3, 0, 2], &[]), refused(Layer::Subject, 7, 1)),
+            (array(&[65, 0], &[]), refused(Layer::Subject, 7, 0)),
+            (array(&largest, &[]), refused(Layer::Subject, 7, 0)),
+            (array(&[0], &[11]), refused(Layer::Subject, 7, 0)),
         ],
     );
 }
@@ -116,11 +107,14 @@ fn cells(rt: HostRuntime) {
     compared(
         &rt,
         &[
-            (array(&[2, 2], &[1, 2, 3]), subject(9, 0)),
+            (array(&[2, 2], &[1, 2, 3]), refused(Layer::Subject, 9, 0)),
             (array(&[2, 2], &[1, 2, 3, 4]), TAKEN),
-            (array(&[2, 2], &[1, 2, 3, 4, 5]), subject(9, 0)),
-            (array(&[2], &[]), subject(9, 0)),
-            (array(&[2], &[11, 12, 13]), subject(9, 0)),
+            (
+                array(&[2, 2], &[1, 2, 3, 4, 5]),
+                refused(Layer::Subject, 9, 0),
+            ),
+            (array(&[2], &[]), refused(Layer::Subject, 9, 0)),
+            (array(&[2], &[11, 12, 13]), refused(Layer::Subject, 9, 0)),
         ],
     );
 }
@@ -131,9 +125,12 @@ fn codes(rt: HostRuntime) {
         &rt,
         &[
             (array(&[3], &[10, 10, 10]), TAKEN),
-            (array(&[3], &[11, 10, 10]), subject(10, 0)),
-            (array(&[3], &[10, 11, 65535]), subject(10, 1)),
-            (array(&[3], &[0, 0, 65535]), subject(10, 2)),
+            (array(&[3], &[11, 10, 10]), refused(Layer::Subject, 10, 0)),
+            (
+                array(&[3], &[10, 11, 65535]),
+                refused(Layer::Subject, 10, 1),
+            ),
+            (array(&[3], &[0, 0, 65535]), refused(Layer::Subject, 10, 2)),
         ],
     );
 }
@@ -148,9 +145,15 @@ fn term_codes(rt: HostRuntime) {
         &[
             (terms(&[]), TAKEN),
             (terms(&[fine]), TAKEN),
-            (terms(&[eleven]), worksheet(10, 0)),
-            (terms(&[fine, eleven, eleven]), worksheet(10, 1)),
-            (terms(&[high, fine, eleven]), worksheet(10, 2)),
+            (terms(&[eleven]), refused(Layer::Worksheet, 10, 0)),
+            (
+                terms(&[fine, eleven, eleven]),
+                refused(Layer::Worksheet, 10, 1),
+            ),
+            (
+                terms(&[high, fine, eleven]),
+                refused(Layer::Worksheet, 10, 2),
+            ),
         ],
     );
 }
@@ -169,16 +172,14 @@ fn term_exponents(rt: HostRuntime) {
     assert_eq!(rt; terms(&[fine]), TAKEN);
     for exponents in outside {
         let three = [fine, Term::new(exponents, 1), last];
-        assert_eq!(rt; terms(&three), worksheet(15, 1));
+        assert_eq!(rt; terms(&three), refused(Layer::Worksheet, 15, 1));
     }
 }
 
 // A refusal leaves the array as it was.
 #[test]
 fn unchanged(rt: HostRuntime) -> Result<(), Fail> {
-    let Ok(field) = Residue::new(11) else {
-        return Err(Fail::new("modulus 11 is refused"));
-    };
+    let field: Residue = listed(11)?;
     let mut array = PeriodicArray::unit();
     let made = array.set(&field, &[2], &[4, 7]).is_ok();
     let short = array.set(&field, &[3], &[4, 7]).is_err();
@@ -189,4 +190,22 @@ fn unchanged(rt: HostRuntime) -> Result<(), Fail> {
     };
     assert_eq!(rt; array.code_at(&field, &second), 7);
     Ok(())
+}
+
+// An array is made of cells that are admitted, and of no others.
+#[test]
+fn made(rt: HostRuntime) -> Result<(), Fail> {
+    let field: Residue = listed(11)?;
+    let array = PeriodicArray::new(&field, &[2], &[4, 7])?;
+    let second = Monomial {
+        exponents: [1, 0, 0, 0],
+    };
+    assert_eq!(rt; array.code_at(&field, &second), 7);
+    match PeriodicArray::new(&field, &[2], &[5, 11]) {
+        Ok(_) => Err(Fail::new("the cell is taken")),
+        Err(fault) => {
+            assert_eq!(rt; Refusal::from(fault), refused(Layer::Subject, 10, 1));
+            Ok(())
+        },
+    }
 }

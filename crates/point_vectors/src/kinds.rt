@@ -1,19 +1,11 @@
-// Fields of both kinds.
-use fields::{Binary, Residue};
+// Fields that a test takes for listed.
+use fields::ListedField;
 use std::test::Fail;
 
-// The residues by a modulus.
-pub(crate) fn residues(modulus: u16) -> Result<Residue, Fail> {
-    match Residue::new(modulus) {
+// The field of a listed number.
+pub(crate) fn listed<F: ListedField>(number: u16) -> Result<F, Fail> {
+    match F::new(number) {
         Ok(field) => Ok(field),
-        Err(_) => Err(Fail::new("the modulus is refused")),
-    }
-}
-
-// The binary codes of a degree.
-pub(crate) fn binaries(degree: u16) -> Result<Binary, Fail> {
-    match Binary::new(degree) {
-        Ok(field) => Ok(field),
-        Err(_) => Err(Fail::new("the degree is refused")),
+        Err(_) => Err(Fail::new("the number is refused")),
     }
 }
