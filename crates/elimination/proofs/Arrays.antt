@@ -1,6 +1,5 @@
 -- Arrays of codes: what holds an image.
 use Rattle.std.proofs.Common.{◌≡◌, ℕ, ◌<◌, ◌≤◌, List, length, get_or, sym, subst, inl, inr, arith}
-use Rattle.std.proofs.lemmas.List.{get_or_past}
 use Rattle.std.proofs.lemmas.Bool.{cases_lt}
 use Rattle.elimination.specs.Images.{Holds}
 
@@ -9,11 +8,4 @@ pub holds_below : (w q : ℕ) (image : ℕ → ℕ) (codes : List ℕ) → Holds
 holds_below w q image codes H z b k = elim (cases_lt k w) [
   | inl h ↦ subst (λ c. c < q) (sym (H.inside k h)) (b k)
   | inr h ↦ subst (λ c. c < q) (sym (H.past k h)) z
-]
-
--- 64 codes that are zero at each position are zero everywhere
-pub zero_everywhere : (codes : List ℕ) (n : ℕ) → length codes ≡ 64 → 64 ≤ n → ((k : ℕ) → k < n → get_or codes k 0 ≡ 0) → (k : ℕ) → get_or codes k 0 ≡ 0
-zero_everywhere codes n long b z k = elim (cases_lt k n) [
-  | inl h ↦ z k h
-  | inr h ↦ get_or_past codes k 0 (omega arith)
 ]

@@ -18,10 +18,7 @@ fn pivot_factor<F: Field>(field: &F, line: &Line, image: &[u16; 64]) -> u16
     if pivot >= 64 {
         return 0;
     }
-    match clearing_factor(field, image[pivot], line.image[pivot]) {
-        Some(factor) => factor,
-        None => 0,
-    }
+    clearing_factor(field, image[pivot], line.image[pivot]).unwrap_or(0)
 }
 
 // Clears the image at the line's pivot, and does the same to the combination, with the factor at the line's own place.

@@ -17,11 +17,9 @@ fn judged(monomial: Monomial, combination: [u16; 64], image: [u16; 64]) -> Line
     ensures image { result.image ≡ image }
     ensures says { Says result.verdict result }
 {
-    let pivot = first_code(&image);
-    let verdict = if pivot < 64 {
-        Verdict::Stair
-    } else {
-        Verdict::Relation
+    let (verdict, pivot) = match first_code(&image) {
+        Some(position) => (Verdict::Stair, position as u8),
+        None => (Verdict::Relation, 64),
     };
     Line {
         monomial,

@@ -14,6 +14,7 @@ pub fn add_multiple<F: Field>(
 )
     ensures { Added (F.Field.arithmetic field.now) (min live 64) target.old row.now factor target.new }
 {
+    // By index: zipped with `target.iter_mut()`, the written codes are not known after the loop (`returns`).
     for k in 0..live.min(64) {
         target[k] = field.multiply_add(target[k], factor, row[k]);
     }
@@ -23,8 +24,6 @@ pub fn add_multiple<F: Field>(
 pub fn clearing_factor<F: Field>(field: &F, code: u16, at_pivot: u16) -> Option<u16>
     ensures { Clears (F.Field.arithmetic field.now) code at_pivot result }
 {
-    let Some(inverse) = field.inverse(at_pivot) else {
-        return None;
-    };
+    let inverse = field.inverse(at_pivot)?;
     Some(field.product(field.negative(code), inverse))
 }

@@ -14,15 +14,15 @@ use subjects::Subject;
 fn code_at(codes: &[u16; 64], place: usize) -> u16
     ensures { result ≡ slice_index codes.now place }
 {
-    if place < 64 { codes[place] } else { 0 }
+    codes.get(place).copied().unwrap_or(0)
 }
 
 // Writes the negatives of the codes that were added.
 fn write_negatives<F: Field>(field: &F, added: &[u16; 64], codes: &mut [u16])
     ensures { (j : ℕ) → j < length codes.new → slice_index codes.new j ≡ (F.Field.arithmetic field.now).negative (slice_index added.now j) }
 {
-    for j in 0..codes.len() {
-        codes[j] = field.negative(code_at(added, j));
+    for (j, code) in codes.iter_mut().enumerate() {
+        *code = field.negative(code_at(added, j));
     }
 }
 

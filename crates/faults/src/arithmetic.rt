@@ -1,7 +1,8 @@
 // The faults of arithmetic.
+ghost use Rattle.std.specs.Prelude.{◌≡◌};
 ghost use Rattle.faults.specs.Grounds.{of_arithmetic};
 
-use crate::refusal::{Fault, Layer, Refusal};
+use crate::refusal::{Layer, Refusal};
 
 #[derive(Clone, Copy, PartialEq, Eq, Debug)]
 pub enum ArithmeticFault {
@@ -11,13 +12,13 @@ pub enum ArithmeticFault {
     Weight(usize),
 }
 
-impl Fault for ArithmeticFault {
-    ghost answer = { of_arithmetic };
+impl From<ArithmeticFault> for Refusal {
+    ghost from_gives = { λ fault r. r ≡ of_arithmetic fault };
 
-    fn refusal(&self) -> Refusal {
-        let (ground, place) = match self {
+    fn from(fault: ArithmeticFault) -> Refusal {
+        let (ground, place) = match fault {
             ArithmeticFault::Unlisted => (4, 0),
-            ArithmeticFault::Weight(weight) => (5, *weight),
+            ArithmeticFault::Weight(weight) => (5, weight),
         };
         Refusal {
             ground,

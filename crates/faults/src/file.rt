@@ -3,7 +3,7 @@ ghost use Rattle.std.specs.Prelude.{◌≡◌};
 ghost use Rattle.faults.specs.Grounds.{of_file, of_record};
 ghost use Rattle.faults.specs.declared.file.FileFault.TheVariants.{Subject};
 
-use crate::refusal::{Fault, Layer, Refusal};
+use crate::refusal::{Layer, Refusal};
 use crate::subject::SubjectFault;
 
 #[derive(Clone, Copy, PartialEq, Eq, Debug)]
@@ -27,16 +27,16 @@ pub struct RecordFault {
     pub fault: FileFault,
 }
 
-impl Fault for FileFault {
-    ghost answer = { of_file };
+impl From<FileFault> for Refusal {
+    ghost from_gives = { λ fault r. r ≡ of_file fault };
 
-    fn refusal(&self) -> Refusal {
-        let ground = match self {
+    fn from(fault: FileFault) -> Refusal {
+        let ground = match fault {
             FileFault::Length => 1,
             FileFault::Content => 2,
             FileFault::Single => 3,
             FileFault::Cell => 8,
-            FileFault::Subject(fault) => return fault.refusal(),
+            FileFault::Subject(fault) => return Refusal::from(fault),
         };
         Refusal {
             ground,
@@ -46,15 +46,14 @@ impl Fault for FileFault {
     }
 }
 
-impl Fault for RecordFault {
-    ghost answer = { of_record };
+impl From<RecordFault> for Refusal {
+    ghost from_gives = { λ fault r. r ≡ of_record fault };
 
-    fn refusal(&self) -> Refusal {
-        let below = self.fault.refusal();
+    // The place of the fault below gives way to that of the record.
+    fn from(fault: RecordFault) -> Refusal {
         Refusal {
-            ground: below.ground,
-            place: self.record,
-            layer: below.layer,
+            place: fault.record,
+            ..Refusal::from(fault.fault)
         }
     }
 }

@@ -9,6 +9,6 @@ mod worksheet;
 
 pub use arithmetic::ArithmeticFault;
 pub use file::{FileFault, RecordFault};
-pub use refusal::{Fault, Layer, Refusal};
+pub use refusal::{Layer, Refusal};
 pub use subject::SubjectFault;
 pub use worksheet::WorksheetFault;

@@ -1,5 +1,5 @@
 // What a refusal answers, whichever layer it comes from.
-ghost use Rattle.std.specs.Prelude.{◌≡◌, Some};
+ghost use Rattle.std.specs.Prelude.{Some};
 ghost use Rattle.faults.specs.Texts.{refusal_text};
 ghost use Rattle.faults.specs.declared.refusal.Refusal.{Refusal};
 
@@ -31,12 +31,4 @@ impl fmt::Display for Refusal {
         let place = self.place;
         write!(f, "refused {ground} at {place}")
     }
-}
-
-// A fault of some layer, with what it answers.
-pub trait Fault {
-    ghost answer: { Self → Refusal };
-
-    fn refusal(&self) -> Refusal
-        ensures { result ≡ answer self.now };
 }

@@ -4,7 +4,7 @@ ghost use Rattle.faults.specs.Grounds.{of_subject};
 ghost use Rattle.faults.specs.declared.subject.SubjectFault.TheVariants.{Arithmetic};
 
 use crate::arithmetic::ArithmeticFault;
-use crate::refusal::{Fault, Layer, Refusal};
+use crate::refusal::{Layer, Refusal};
 
 #[derive(Clone, Copy, PartialEq, Eq, Debug)]
 pub enum SubjectFault {
@@ -22,17 +22,17 @@ pub enum SubjectFault {
     Arithmetic(ArithmeticFault),
 }
 
-impl Fault for SubjectFault {
-    ghost answer = { of_subject };
+impl From<SubjectFault> for Refusal {
+    ghost from_gives = { λ fault r. r ≡ of_subject fault };
 
-    fn refusal(&self) -> Refusal {
-        let (ground, place) = match self {
+    fn from(fault: SubjectFault) -> Refusal {
+        let (ground, place) = match fault {
             SubjectFault::Variables => (6, 0),
-            SubjectFault::Period(axis) => (7, *axis),
+            SubjectFault::Period(axis) => (7, axis),
             SubjectFault::Points => (7, 0),
             SubjectFault::Count => (9, 0),
-            SubjectFault::Code(code) => (10, *code),
-            SubjectFault::Arithmetic(fault) => return fault.refusal(),
+            SubjectFault::Code(code) => (10, code),
+            SubjectFault::Arithmetic(fault) => return Refusal::from(fault),
         };
         Refusal {
             ground,

@@ -3,7 +3,7 @@ ghost use Rattle.std.specs.Prelude.{◌≡◌};
 ghost use Rattle.faults.specs.Grounds.{of_worksheet};
 ghost use Rattle.faults.specs.declared.worksheet.WorksheetFault.TheVariants.{Subject};
 
-use crate::refusal::{Fault, Layer, Refusal};
+use crate::refusal::{Layer, Refusal};
 use crate::subject::SubjectFault;
 
 #[derive(Clone, Copy, PartialEq, Eq, Debug)]
@@ -26,19 +26,19 @@ pub enum WorksheetFault {
     Subject(SubjectFault),
 }
 
-impl Fault for WorksheetFault {
-    ghost answer = { of_worksheet };
+impl From<WorksheetFault> for Refusal {
+    ghost from_gives = { λ fault r. r ≡ of_worksheet fault };
 
-    fn refusal(&self) -> Refusal {
-        let (ground, place) = match self {
-            WorksheetFault::Code(place) => (10, *place),
+    fn from(fault: WorksheetFault) -> Refusal {
+        let (ground, place) = match fault {
+            WorksheetFault::Code(place) => (10, place),
             WorksheetFault::OtherSetUp => (11, 0),
             WorksheetFault::Unfinished => (12, 0),
             WorksheetFault::NoLineLeft => (13, 0),
             WorksheetFault::LineNumber => (14, 0),
-            WorksheetFault::Exponent(term) => (15, *term),
+            WorksheetFault::Exponent(term) => (15, term),
             WorksheetFault::Length => (16, 0),
-            WorksheetFault::Subject(fault) => return fault.refusal(),
+            WorksheetFault::Subject(fault) => return Refusal::from(fault),
         };
         Refusal {
             ground,

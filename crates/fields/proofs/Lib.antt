@@ -7,3 +7,4 @@ pub mod Listings
 pub mod Triangles
 pub mod Clearings
 pub mod Zeros
+pub mod MadeArrays

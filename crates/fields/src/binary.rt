@@ -5,7 +5,7 @@ ghost use Rattle.fields.specs.Binaries.{binary, Listed, reduction, remainder};
 ghost use Rattle.fields.specs.PowersLemmas.{field_laws};
 ghost use Rattle.std.proofs.Common.{rules, arith};
 
-use crate::field::Field;
+use crate::field::{Field, ListedField};
 use faults::ArithmeticFault;
 
 #[derive(Clone, Copy)]
@@ -17,20 +17,6 @@ pub struct Binary {
 }
 
 impl Binary {
-    // The field of 2^degree codes, for a listed degree.
-    pub fn new(degree: u16) -> Result<Binary, ArithmeticFault>
-        ensures { MatchResult result (λ f. (f.degree ≡ degree) × Listed degree) (λ e. (e ≡ Unlisted) × (Listed degree → ⊥)) }
-    {
-        let polynomial = match degree {
-            2 => 0b111,
-            3 => 0b1011,
-            4 => 0b1_0011,
-            8 => 0b1_0001_1011,
-            _ => return Err(ArithmeticFault::Unlisted),
-        };
-        Ok(Binary { degree, polynomial })
-    }
-
     // The code that a number counts as: its lowest bits.
     fn code(&self, a: u16) -> u16
         ensures { result ≡ a % 2 ^ self.now.degree }
@@ -55,19 +41,15 @@ impl Binary {
 impl Field for Binary {
     const LARGEST: u32 = 256;
 
-    ghost arithmetic = { λ f. binary f.degree };
+    ghost LARGEST = { 256 };
 
-    ghost largest = { 256 };
+    ghost arithmetic = { λ f. binary f.degree };
 
     ghost laws = { λ f. field_laws f.degree f.listed };
 
     ghost admitted = { first_of (Prim.search rules, Prim.grind (arith, Self.row.coded.inj)) };
 
     ghost bounded = { first_of (Prim.search rules, Prim.grind (arith, Self.row.coded.inj)) };
-
-    fn largest_order() -> u32 {
-        Self::LARGEST
-    }
 
     fn order(&self) -> u32 {
         1 << self.degree
@@ -109,5 +91,26 @@ impl Field for Binary {
             inverse = self.product(inverse, square);
         }
         Some(inverse)
+    }
+}
+
+impl ListedField for Binary {
+    ghost listed = { Listed };
+
+    ghost named = { binary };
+
+    // The field of 2^degree codes, for a listed degree.
+    fn new(degree: u16) -> Result<Binary, ArithmeticFault>
+        ensures degree { MatchResult result (λ f. (f.degree ≡ degree) × Listed degree) (λ e. (e ≡ Unlisted) × (Listed degree → ⊥)) }
+        ensures made { MatchResult result (λ f. (binary f.degree ≡ binary degree) × Listed degree) (λ e. (e ≡ Unlisted) × (Listed degree → ⊥)) }
+    {
+        let polynomial = match degree {
+            2 => 0b111,
+            3 => 0b1011,
+            4 => 0b1_0011,
+            8 => 0b1_0001_1011,
+            _ => return Err(ArithmeticFault::Unlisted),
+        };
+        Ok(Binary { degree, polynomial })
     }
 }

@@ -9,10 +9,7 @@ use crate::field::Field;
 pub fn first_outside<F: Field>(field: &F, codes: &[u16]) -> Option<usize>
     ensures { Searched (CodeFault (F.Field.arithmetic field.now).order codes.now) result }
 {
-    for (i, code) in codes.iter().enumerate() {
-        if u32::from(*code) >= field.order() {
-            return Some(i);
-        }
-    }
-    None
+    codes
+        .iter()
+        .position(|code| u32::from(*code) >= field.order())
 }

@@ -10,5 +10,5 @@ mod residue;
 pub use binary::Binary;
 pub use codes::first_outside;
 pub use exponentiation::power;
-pub use field::Field;
+pub use field::{Field, ListedField};
 pub use residue::Residue;

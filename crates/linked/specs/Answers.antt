@@ -8,8 +8,6 @@ use Rattle.polynomials.specs.Subjects.{SubjectMeaning}
 use Rattle.rows.specs.declared.line.Line.{Line}
 use Rattle.worksheet.specs.Sheets.{Sheet, judged}
 use Rattle.worksheet.specs.Questions.{Leaves, Refills, RemainderRefused, stairs_in}
-use Rattle.linked.specs.declared.task.Task.{Task}
-use Rattle.linked.specs.declared.task.Task.TheVariants as tasks
 use Rattle.linked.specs.Numbers.{LinesAt, SameFrom, four, TermsAt}
 
 -- all lines are written where there is room for them, and else none
@@ -57,9 +55,3 @@ pub record LeavesEach (S : SubjectMeaning) (A : Arithmetic) (asked : List ℕ) (
   pub whole : (r ≡ length asked / 320) ⊎ ((r ≡ 0) × ((length before / 64 < length asked / 320) ⊎ SomeRefused S A asked s (length asked / 320)))
   pub each : (i : ℕ) → i < r → Remaindered S A asked s after i
   pub rest : SameFrom (64 * (length asked / 320)) before after
-
--- what each task answers
-abbrev pub Answers : Task → SubjectMeaning → Arithmetic → List ℕ → List ℕ → Sheet → List ℕ → ℕ → List ℕ → Type 0
-Answers tasks.Lines S A codes asked s before r after = Lists (judged s) before r after
-Answers tasks.Refills S A codes asked s before r after = ContinuesEach A codes asked s before r after
-Answers tasks.Remainders S A codes asked s before r after = LeavesEach S A asked s before r after

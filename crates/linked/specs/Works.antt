@@ -15,9 +15,11 @@ use Rattle.worksheet.specs.declared.answers.Ending.{Ending}
 use Rattle.worksheet.specs.declared.answers.Ending.TheVariants as endings
 use Rattle.worksheet.specs.Sheets.{Sheet}
 use Rattle.worksheet.specs.Steps.{opened, Runs}
-use Rattle.linked.specs.declared.task.Task.{Task}
-use Rattle.linked.specs.declared.task.Names.{Names}
-use Rattle.linked.specs.Answers.{Answers}
+use Rattle.polynomials.specs.Subjects.{SubjectMeaning}
+
+-- what is asked of a finished sheet: the numbers before, how many answers there are, the numbers after
+abbrev pub Asked : Type 1
+Asked = SubjectMeaning → Arithmetic → Sheet → List ℕ → ℕ → List ℕ → Type 0
 
 -- nothing is written, and 0 is answered
 abbrev pub Nothing : List ℕ → ℕ → List ℕ → Type 0
@@ -33,21 +35,24 @@ pub record RanTo (A : Arithmetic) (O : Order) (ns cells : List ℕ) (ending : En
   pub ended : ran.ending ≡ ending
 
 -- under a field and an order: the finished sheet is asked; a sheet that is full, and refused periods or cells, give nothing
-pub data Works (A : Arithmetic) (O : Order) (ns cells : List ℕ) (task : Task) (codes asked before : List ℕ) (r : ℕ) (after : List ℕ) : Type 0 where
-  answered : (s : Sheet) → RanTo A O ns cells endings.Finished s → Answers task (array_meaning ns cells) A codes asked s before r after → Works A O ns cells task codes asked before r after
-  full : (s : Sheet) → RanTo A O ns cells endings.Full s → Nothing before r after → Works A O ns cells task codes asked before r after
-  refused : (fault : SubjectFault) → ArrayRefused A.order ns cells fault → Nothing before r after → Works A O ns cells task codes asked before r after
+pub data Works (A : Arithmetic) (O : Order) (ns cells : List ℕ) (Ask : Asked) (before : List ℕ) (r : ℕ) (after : List ℕ) : Type 0 where
+  answered : (s : Sheet) → RanTo A O ns cells endings.Finished s → Ask (array_meaning ns cells) A s before r after → Works A O ns cells Ask before r after
+  full : (s : Sheet) → RanTo A O ns cells endings.Full s → Nothing before r after → Works A O ns cells Ask before r after
+  refused : (fault : SubjectFault) → ArrayRefused A.order ns cells fault → Nothing before r after → Works A O ns cells Ask before r after
 
 -- under the order of a number: 0 the lexicographic, 1 the graded, none of the others
-pub record Orders (A : Arithmetic) (order : ℕ) (ns cells : List ℕ) (task : Task) (codes asked before : List ℕ) (r : ℕ) (after : List ℕ) : Type 0 where
-  pub by_lexicographic : order ≡ 0 → Works A lexicographic ns cells task codes asked before r after
-  pub by_graded : order ≡ 1 → Works A graded ns cells task codes asked before r after
+pub record Orders (A : Arithmetic) (order : ℕ) (ns cells : List ℕ) (Ask : Asked) (before : List ℕ) (r : ℕ) (after : List ℕ) : Type 0 where
+  pub by_lexicographic : order ≡ 0 → Works A lexicographic ns cells Ask before r after
+  pub by_graded : order ≡ 1 → Works A graded ns cells Ask before r after
   pub by_none : 1 < order → Nothing before r after
 
+-- under a field that may not be listed: nothing where it is not
+pub record Listed (IsListed : Type 0) (A : Arithmetic) (order : ℕ) (ns cells : List ℕ) (Ask : Asked) (before : List ℕ) (r : ℕ) (after : List ℕ) : Type 0 where
+  pub by_number : IsListed → Orders A order ns cells Ask before r after
+  pub no_number : (IsListed → ⊥) → Nothing before r after
+
 -- under the field of a kind and a size: 0 the residues by a listed modulus, 1 the binary field of a listed degree, none of the others
-pub record Fields (names : Names) (ns cells : List ℕ) (task : Task) (codes asked before : List ℕ) (r : ℕ) (after : List ℕ) : Type 0 where
-  pub by_modulus : names.kind ≡ 0 → ModulusListed names.size → Orders (residues names.size) names.order ns cells task codes asked before r after
-  pub by_degree : names.kind ≡ 1 → DegreeListed names.size → Orders (binary names.size) names.order ns cells task codes asked before r after
-  pub no_modulus : names.kind ≡ 0 → (ModulusListed names.size → ⊥) → Nothing before r after
-  pub no_degree : names.kind ≡ 1 → (DegreeListed names.size → ⊥) → Nothing before r after
-  pub by_none : 1 < names.kind → Nothing before r after
+pub record Fields (kind size order : ℕ) (ns cells : List ℕ) (Ask : Asked) (before : List ℕ) (r : ℕ) (after : List ℕ) : Type 0 where
+  pub by_modulus : kind ≡ 0 → Listed (ModulusListed size) (residues size) order ns cells Ask before r after
+  pub by_degree : kind ≡ 1 → Listed (DegreeListed size) (binary size) order ns cells Ask before r after
+  pub by_none : 1 < kind → Nothing before r after

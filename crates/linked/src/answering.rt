@@ -1,13 +1,13 @@
 // What is answered of a finished sheet.
-ghost use Rattle.std.specs.Prelude.{◌≡◌, ℕ, ◌+◌, ◌<◌, ◌≤◌, min, length, slice_index};
+ghost use Rattle.std.specs.Prelude.{◌≡◌, ℕ, ◌+◌, ◌<◌, ◌≤◌, min, length, slice_index, unwrap_or};
 ghost use Rattle.worksheet.specs.Sheets.{judged};
 ghost use Rattle.worksheet.specs.Questions.{stairs_in};
 ghost use Rattle.worksheet.specs.Views.{sheet as sheet_of};
 ghost use Rattle.linked.specs.Numbers.{SameFrom};
-ghost use Rattle.linked.specs.Answers.{Lists, ContinuesEach, LeavesEach, Answers, RemainderAt};
+ghost use Rattle.linked.specs.Answers.{Lists, ContinuesEach, LeavesEach, RemainderAt};
 
 use crate::numbers::{monomial_at, terms_from};
-use crate::task::Task;
+use crate::question::Question;
 use crate::writing::{LINE_NUMBERS, write_lines};
 use faults::WorksheetFault;
 use fields::Field;
@@ -18,39 +18,21 @@ use worksheet::Worksheet;
 // How many numbers a polynomial of 64 terms takes.
 const POLYNOMIAL_NUMBERS: usize = 320;
 
-// All lines, where there is room for them; answers how many there are.
-fn lines(sheet: &Worksheet, out: &mut [u16]) -> usize
-    ensures { Lists (judged (sheet_of sheet.now)) out.old result out.new }
-{
-    let judged = sheet.summary().judged;
-    if judged > out.len() / LINE_NUMBERS {
-        return 0;
-    }
-    write_lines(sheet, judged, out);
-    judged
+// All lines.
+#[derive(Clone, Copy)]
+pub(crate) struct Lines;
+
+// From codes on the staircase, the code at each monomial of four exponents.
+#[derive(Clone, Copy)]
+pub(crate) struct Refills<'a> {
+    pub(crate) codes: &'a [u16],
+    pub(crate) exponents: &'a [u16],
 }
 
-// The code at each monomial; answers how many there are.
-fn refills<F: Field>(
-    sheet: &Worksheet,
-    field: &F,
-    codes: &[u16],
-    asked: &[u16],
-    out: &mut [u16],
-) -> usize
-    ensures { ContinuesEach (F.Field.arithmetic field.now) codes.now asked.now (sheet_of sheet.now) out.old result out.new }
-{
-    let count = asked.len() / 4;
-    if count > out.len() {
-        return 0;
-    }
-    for number in 0..count {
-        match sheet.refill(field, codes, &monomial_at(asked, 4 * number)) {
-            Ok(code) => out[number] = code,
-            Err(_fault) => return 0,
-        }
-    }
-    count
+// The remainder of each polynomial of 64 terms.
+#[derive(Clone, Copy)]
+pub(crate) struct Remainders<'a> {
+    pub(crate) polynomials: &'a [u16],
 }
 
 // How many codes a remainder takes: one for each stair, at most 64.
@@ -78,46 +60,74 @@ fn write_remainder<S: Subject, F: Field>(
     sheet.remainder(subject, field, terms, &mut out[start..start + stairs])
 }
 
-// The remainder of each polynomial, 64 numbers after the one before; answers how many there are.
-fn remainders<S: Subject, F: Field>(
-    sheet: &Worksheet,
-    subject: &S,
-    field: &F,
-    asked: &[u16],
-    out: &mut [u16],
-) -> usize
-    ensures { LeavesEach (S.Subject.meaning subject.now) (F.Field.arithmetic field.now) asked.now (sheet_of sheet.now) out.old result out.new }
-{
-    let count = asked.len() / POLYNOMIAL_NUMBERS;
-    let stairs = places(sheet);
-    if count > out.len() / 64 {
-        return 0;
-    }
-    for number in 0..count {
-        let terms = terms_from(asked, POLYNOMIAL_NUMBERS * number);
-        let start = 64 * number;
-        if let Err(_fault) = write_remainder(sheet, subject, field, &terms, stairs, out, start) {
-            return 0;
+impl Question for Lines {
+    ghost answers = { λ _ _ _ s. Lists (judged s) };
+
+    fn answer<S: Subject, F: Field>(
+        &self,
+        sheet: &Worksheet,
+        _subject: &S,
+        _field: &F,
+        out: &mut [u16],
+    ) -> Option<usize> {
+        let judged = sheet.summary().judged;
+        if judged > out.len() / LINE_NUMBERS {
+            return None;
         }
+        write_lines(sheet, judged, out);
+        Some(judged)
     }
-    count
 }
 
-// What the task asks: of monomials the codes, continued from these, or of polynomials the remainders.
-pub(crate) fn answer<S: Subject, F: Field>(
-    sheet: &Worksheet,
-    subject: &S,
-    field: &F,
-    task: Task,
-    codes: &[u16],
-    asked: &[u16],
-    out: &mut [u16],
-) -> usize
-    ensures { Answers task (S.Subject.meaning subject.now) (F.Field.arithmetic field.now) codes.now asked.now (sheet_of sheet.now) out.old result out.new }
-{
-    match task {
-        Task::Lines => lines(sheet, out),
-        Task::Refills => refills(sheet, field, codes, asked, out),
-        Task::Remainders => remainders(sheet, subject, field, asked, out),
+impl Question for Refills<'_> {
+    ghost answers = { λ q _ A. ContinuesEach A q.codes.now q.exponents.now };
+
+    fn answer<S: Subject, F: Field>(
+        &self,
+        sheet: &Worksheet,
+        _subject: &S,
+        field: &F,
+        out: &mut [u16],
+    ) -> Option<usize> {
+        let count = self.exponents.len() / 4;
+        if count > out.len() {
+            return None;
+        }
+        for number in 0..count {
+            let monomial = monomial_at(self.exponents, 4 * number);
+            match sheet.refill(field, self.codes, &monomial) {
+                Ok(code) => out[number] = code,
+                Err(_fault) => return None,
+            }
+        }
+        Some(count)
+    }
+}
+
+impl Question for Remainders<'_> {
+    ghost answers = { λ q S A. LeavesEach S A q.polynomials.now };
+
+    fn answer<S: Subject, F: Field>(
+        &self,
+        sheet: &Worksheet,
+        subject: &S,
+        field: &F,
+        out: &mut [u16],
+    ) -> Option<usize> {
+        let count = self.polynomials.len() / POLYNOMIAL_NUMBERS;
+        let stairs = places(sheet);
+        if count > out.len() / 64 {
+            return None;
+        }
+        for number in 0..count {
+            let terms = terms_from(self.polynomials, POLYNOMIAL_NUMBERS * number);
+            let start = 64 * number;
+            if let Err(_fault) = write_remainder(
+                sheet, subject, field, &terms, stairs, out, start,
+            ) {
+                return None;
+            }
+        }
+        Some(count)
     }
 }

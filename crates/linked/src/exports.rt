@@ -1,10 +1,11 @@
 // The exported calls. Each writes to the lent numbers, and answers how many lines, codes or remainders it wrote: 0 where anything is refused.
-ghost use Rattle.std.specs.Prelude.{[]};
-ghost use Rattle.linked.specs.declared.task.Task.TheVariants as tasks;
+ghost use Rattle.worksheet.specs.Sheets.{judged};
+ghost use Rattle.linked.specs.Answers.{Lists, ContinuesEach, LeavesEach};
 ghost use Rattle.linked.specs.Works.{Fields};
 
+use crate::answering::{Lines, Refills, Remainders};
 use crate::dispatch::under_field;
-use crate::task::{Names, Task};
+use crate::pattern::Pattern;
 
 // The lines of the pattern, 69 numbers each: four exponents, 1 for a stair and 0 for a relation, 64 codes.
 #[unsafe(no_mangle)]
@@ -16,10 +17,16 @@ pub extern "C" fn linked_lines(
     cells: &[u16],
     out: &mut [u16],
 ) -> usize
-    ensures { Fields (record { kind = kind; size = size; order = order }) periods.now cells.now tasks.Lines [] [] out.old result out.new }
+    ensures { Fields kind size order periods.now cells.now (λ _ _ s. Lists (judged s)) out.old result out.new }
 {
-    let names = Names { kind, size, order };
-    under_field(names, periods, cells, Task::Lines, &[], &[], out)
+    let pattern = Pattern {
+        kind,
+        size,
+        order,
+        periods,
+        cells,
+    };
+    under_field(&pattern, &Lines, out).unwrap_or(0)
 }
 
 // From codes on the staircase, the code at each monomial, four exponents each.
@@ -34,10 +41,16 @@ pub extern "C" fn linked_refills(
     exponents: &[u16],
     out: &mut [u16],
 ) -> usize
-    ensures { Fields (record { kind = kind; size = size; order = order }) periods.now cells.now tasks.Refills codes.now exponents.now out.old result out.new }
+    ensures { Fields kind size order periods.now cells.now (λ _ A. ContinuesEach A codes.now exponents.now) out.old result out.new }
 {
-    let names = Names { kind, size, order };
-    under_field(names, periods, cells, Task::Refills, codes, exponents, out)
+    let pattern = Pattern {
+        kind,
+        size,
+        order,
+        periods,
+        cells,
+    };
+    under_field(&pattern, &Refills { codes, exponents }, out).unwrap_or(0)
 }
 
 // The remainder of each polynomial of 64 terms, four exponents and a code each: one code for each stair, each
@@ -52,16 +65,14 @@ pub extern "C" fn linked_remainders(
     polynomials: &[u16],
     out: &mut [u16],
 ) -> usize
-    ensures { Fields (record { kind = kind; size = size; order = order }) periods.now cells.now tasks.Remainders [] polynomials.now out.old result out.new }
+    ensures { Fields kind size order periods.now cells.now (λ S A. LeavesEach S A polynomials.now) out.old result out.new }
 {
-    let names = Names { kind, size, order };
-    under_field(
-        names,
+    let pattern = Pattern {
+        kind,
+        size,
+        order,
         periods,
         cells,
-        Task::Remainders,
-        &[],
-        polynomials,
-        out,
-    )
+    };
+    under_field(&pattern, &Remainders { polynomials }, out).unwrap_or(0)
 }

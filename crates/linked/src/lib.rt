@@ -7,7 +7,8 @@ mod answering;
 mod dispatch;
 mod exports;
 mod numbers;
-mod task;
+mod pattern;
+mod question;
 mod writing;
 
 pub use exports::{linked_lines, linked_refills, linked_remainders};

@@ -5,9 +5,6 @@ ghost use Rattle.linked.specs.Numbers.{four, term_at, TermsAt};
 use monomials::Monomial;
 use polynomials::Term;
 
-// How many terms a polynomial has.
-const TERMS: usize = 64;
-
 // How many numbers a term takes: four exponents and a code.
 const TERM_NUMBERS: usize = 5;
 
@@ -42,13 +39,5 @@ pub(crate) fn terms_from(numbers: &[u16], start: usize) -> [Term; 64]
     requires { start + 320 ≤ length numbers.now }
     ensures { TermsAt numbers.now start result }
 {
-    let zero = Term {
-        monomial: Monomial::one(),
-        code: 0,
-    };
-    let mut terms = [zero; TERMS];
-    for j in 0..TERMS {
-        terms[j] = single_term(numbers, start + TERM_NUMBERS * j);
-    }
-    terms
+    std::array::from_fn(|number| single_term(numbers, start + TERM_NUMBERS * number))
 }

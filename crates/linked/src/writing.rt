@@ -18,9 +18,7 @@ pub(crate) fn put(out: &mut [u16], start: usize, numbers: &[u16])
     ensures front { (k : ℕ) → k < start → slice_index out.new k ≡ slice_index out.old k }
     ensures rest { SameFrom (start + length numbers.now) out.old out.new }
 {
-    for k in 0..numbers.len() {
-        out[start + k] = numbers[k];
-    }
+    out[start..start + numbers.len()].copy_from_slice(numbers);
 }
 
 // 1 for a stair, 0 for a relation.

@@ -1,3 +1,4 @@
 pub mod Orders
 pub mod Finite
 pub mod Leftmost
+pub mod Exponents

@@ -16,9 +16,8 @@ impl MonomialOrder for Graded {
     ghost laws = { λ _. graded_laws };
 
     fn compare(&self, a: &Monomial, b: &Monomial) -> Ordering {
-        match a.degree().cmp(&b.degree()) {
-            Ordering::Equal => Lexicographic.compare(a, b),
-            decided => decided,
-        }
+        a.degree()
+            .cmp(&b.degree())
+            .then_with(|| Lexicographic.compare(a, b))
     }
 }

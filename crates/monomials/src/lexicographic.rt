@@ -12,18 +12,6 @@ use std::cmp::Ordering;
 #[derive(Clone, Copy)]
 pub struct Lexicographic;
 
-// From the left, the first exponents that differ decide.
-fn compare_exponents(a: [u16; 4], b: [u16; 4]) -> Ordering
-    ensures { result ≡ lexicographic (mono a) (mono b) }
-{
-    let [a0, a1, a2, a3] = a;
-    let [b0, b1, b2, b3] = b;
-    a0.cmp(&b0)
-        .then(a1.cmp(&b1))
-        .then(a2.cmp(&b2))
-        .then(a3.cmp(&b3))
-}
-
 impl MonomialOrder for Lexicographic {
     ghost order = { λ _. lexicographic };
 
@@ -33,6 +21,6 @@ impl MonomialOrder for Lexicographic {
         ensures meaning { result ≡ lexicographic (mono a.now.exponents) (mono b.now.exponents) }
         ensures leftmost { Decides (is_lt result) (LeftmostPositive (mono a.now.exponents) (mono b.now.exponents)) }
     {
-        compare_exponents(a.exponents, b.exponents)
+        a.exponents.cmp(&b.exponents)
     }
 }

@@ -1,7 +1,6 @@
 // Monomials and their orders.
 #![tactic(auto)]
 
-mod equality;
 mod graded;
 mod lexicographic;
 mod monomial;

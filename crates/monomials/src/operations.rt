@@ -46,11 +46,9 @@ impl Monomial {
     pub fn is_within(&self, variables: usize) -> bool
         ensures { Decides result (Within variables (mono self.now.exponents)) }
     {
-        for place in variables..4 {
-            if self.exponents[place] > 0 {
-                return false;
-            }
-        }
-        true
+        self.exponents
+            .iter()
+            .skip(variables)
+            .all(|exponent| *exponent == 0)
     }
 }

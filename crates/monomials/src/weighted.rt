@@ -19,9 +19,9 @@ impl<O: MonomialOrder> MonomialOrder for Weighted<O> {
     ghost laws = { λ w. weighted_laws w.weights.weights _ (O.MonomialOrder.laws w.below) };
 
     fn compare(&self, a: &Monomial, b: &Monomial) -> Ordering {
-        match self.weights.sum(a).cmp(&self.weights.sum(b)) {
-            Ordering::Equal => self.below.compare(a, b),
-            decided => decided,
-        }
+        self.weights
+            .sum(a)
+            .cmp(&self.weights.sum(b))
+            .then_with(|| self.below.compare(a, b))
     }
 }

@@ -19,12 +19,10 @@ impl Weights {
     pub fn new(weights: [u16; 4]) -> Result<Weights, ArithmeticFault>
         ensures { MatchResult result (λ w. (w.weights ≡ weights) × Admitted weights) (λ e. ((k : ℕ) × (e ≡ Weight k) × FirstAbove weights k)) }
     {
-        for place in 0..4 {
-            if weights[place] > 255 {
-                return Err(ArithmeticFault::Weight(place));
-            }
+        match weights.iter().position(|weight| *weight > 255) {
+            Some(place) => Err(ArithmeticFault::Weight(place)),
+            None => Ok(Weights { weights }),
         }
-        Ok(Weights { weights })
     }
 
     // The sum of the exponents, each times its weight.

@@ -1,33 +1,32 @@
 -- Terms: when their exponents are admitted, and what they give from a place on.
-use Rattle.std.proofs.Common.{◌≡◌, ℕ, ◌+◌, ◌<◌, ◌≤◌, List, length, get_or, drop, sym, ap, ◌∙◌, inl, inr, arith}
-use Rattle.std.proofs.lemmas.List.{drop_more, drop_all}
-use Rattle.std.proofs.lemmas.Bool.{cases_lt}
+use Rattle.std.proofs.Common.{◌≡◌, ℕ, ◌+◌, ◌<◌, ◌≤◌, nat_le, MatchBool, List, length, get_or, drop, sym, ap, subst, ◌∙◌, inl, inr, arith, leb-true, le-leb}
+use Rattle.std.proofs.lemmas.List.{drop_more, drop_all, get_or_default}
+use Rattle.std.proofs.lemmas.List.Sums.{AllPass-from_list_all, list_all-from_AllPass}
+use Rattle.std.proofs.lemmas.Bool.{cases_lt, cases_Bool, both_ways}
+use Rattle.std.specs.List.{list_all}
 use Rattle.fields.specs.Arithmetic.{Arithmetic, RingLaws}
 use Rattle.fields.proofs.Rings as rings
-use Rattle.monomials.specs.Monomials.{Mono, mono}
+use Rattle.monomials.specs.Monomials.{Mono, mono, Within}
 use Rattle.monomials.specs.MonomialsLemmas.{exponent_mono, within_four}
 use Rattle.polynomials.specs.declared.term.Term.{Term}
 use Rattle.polynomials.specs.Polynomials.{applied}
 use Rattle.polynomials.specs.Terms.{monomial_of, poly, Admitted}
 
--- the exponent in a place is small, and zero beyond m
-pub record Fine (m : ℕ) (es : List ℕ) (v : ℕ) : Type 0 where
-  pub small : get_or es v 0 ≤ 4095
-  pub zero_beyond : m ≤ v → get_or es v 0 ≡ 0
-
--- four fine exponents make an admitted monomial
-pub admitted : (m : ℕ) (es : List ℕ) → ((v : ℕ) → v < 4 → Fine m es v) → Admitted m (mono es)
-admitted m es h = record {
-  small = λ v. elim (cases_lt v 4) [ inl l ↦ omega (arith, exponent_mono es v l, (h v l).small) | inr g ↦ omega (arith, within_four (mono es) v g) ];
-  variables = λ v b. elim (cases_lt v 4) [ inl l ↦ exponent_mono es v l ∙ (h v l).zero_beyond b | inr g ↦ within_four (mono es) v g ];
-}
-
--- and the exponents of an admitted monomial are fine
-pub fine : (m : ℕ) (es : List ℕ) → Admitted m (mono es) → (v : ℕ) → v < 4 → Fine m es v
-fine m es a v l = record {
-  small = omega (arith, exponent_mono es v l, a.small v);
-  zero_beyond = λ b. omega (arith, exponent_mono es v l, a.variables v b);
-}
+-- where only the first m variables occur, the test of each exponent tells whether the monomial is admitted
+pub admitted_cases : (m : ℕ) (es : List ℕ) → length es ≡ 4 → Within m (mono es) →
+    MatchBool (list_all (λ e. nat_le e 4095) es) (Admitted m (mono es)) (Admitted m (mono es) → ⊥)
+admitted_cases m es h w = elim (cases_Bool (list_all (λ e. nat_le e 4095) es)) [
+  | inl t ↦ subst (λ r. MatchBool r (Admitted m (mono es)) (Admitted m (mono es) → ⊥)) (sym t) (record {
+    small = λ v. elim (cases_lt v 4) [
+      | inl l ↦ let s = AllPass-from_list_all (λ e. nat_le e 4095) es t v 0 (omega (arith, h)) in omega (arith, exponent_mono es v l, leb-true _ _ s)
+      | inr g ↦ omega (arith, within_four (mono es) v g)
+    ];
+    variables = w;
+  })
+  | inr f ↦ subst (λ r. MatchBool r (Admitted m (mono es)) (Admitted m (mono es) → ⊥)) (sym f) (λ a.
+      both_ways _ f (list_all-from_AllPass (λ e. nat_le e 4095) es (λ v d l.
+      le-leb _ _ (omega (arith, get_or_default es v d 0 l, exponent_mono es v (omega (arith, h)), a.small v)))))
+]
 
 -- the terms from a place on give what the term there gives, and what the terms after it give
 pub applied_from : (A : Arithmetic) (f : Mono → ℕ) (ts : List Term) (i : ℕ) (d : Term) → i < length ts →

@@ -27,13 +27,11 @@ pub fn first_code_outside<F: Field>(field: &F, terms: &[Term]) -> Option<usize>
 pub fn is_admitted(monomial: &Monomial, variables: usize) -> bool
     ensures { MatchBool result (Admitted variables (mono monomial.now.exponents)) (Admitted variables (mono monomial.now.exponents) → ⊥) }
 {
-    for (v, exponent) in monomial.exponents.iter().enumerate() {
-        let limit = if v < variables { LARGEST_EXPONENT } else { 0 };
-        if *exponent > limit {
-            return false;
-        }
-    }
-    true
+    monomial.is_within(variables)
+        && monomial
+            .exponents
+            .iter()
+            .all(|exponent| *exponent <= LARGEST_EXPONENT)
 }
 
 // The first term whose monomial is not admitted.

@@ -76,6 +76,28 @@ impl<'a> PeriodicArray<'a> {
         }
     }
 
+    // The array with these periods and cells; refused where they do not fit each other or the field.
+    pub fn new<F: Field>(
+        field: &F,
+        periods: &'a [u16],
+        cells: &'a [u16],
+    ) -> Result<PeriodicArray<'a>, SubjectFault>
+        ensures { MatchResult result (λ array. ArrayAdmitted (F.Field.arithmetic field.now).order periods.now cells.now × (array.periods.now ≡ periods.now) × (array.cells.now ≡ cells.now)) (ArrayRefused (F.Field.arithmetic field.now).order periods.now cells.now) }
+    {
+        let width = count_cells(periods)?;
+        if cells.len() != width {
+            return Err(SubjectFault::Count);
+        }
+        if let Some(cell) = first_outside(field, cells) {
+            return Err(SubjectFault::Code(cell));
+        }
+        Ok(PeriodicArray {
+            periods,
+            cells,
+            width,
+        })
+    }
+
     // Makes this the array with these periods and cells. Where they do not fit each other or the field, they are refused,
     // and the array stays as it was.
     pub fn set<F: Field>(
@@ -87,18 +109,7 @@ impl<'a> PeriodicArray<'a> {
         ensures answer { MatchResult result (λ _. ArrayAdmitted (F.Field.arithmetic field.now).order periods.now cells.now) (ArrayRefused (F.Field.arithmetic field.now).order periods.now cells.now) }
         ensures after { MatchResult result (λ _. (self.new.periods.now ≡ periods.now) × (self.new.cells.now ≡ cells.now)) (λ _. self.new ≡ self.old) }
     {
-        let width = count_cells(periods)?;
-        if cells.len() != width {
-            return Err(SubjectFault::Count);
-        }
-        if let Some(cell) = first_outside(field, cells) {
-            return Err(SubjectFault::Code(cell));
-        }
-        *self = PeriodicArray {
-            periods,
-            cells,
-            width,
-        };
+        *self = PeriodicArray::new(field, periods, cells)?;
         Ok(())
     }
 

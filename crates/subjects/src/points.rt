@@ -52,17 +52,15 @@ impl<'a> PointSet<'a> {
         }
     }
 
-    // Makes this the set of these points, of as many coordinates as there are variables. Where the coordinates do not fit
-    // these numbers or the field, they are refused, and the set stays as it was.
-    pub fn set<F: Field>(
-        &mut self,
+    // The set of these points, of as many coordinates as there are variables; refused where the coordinates do not fit
+    // these numbers or the field.
+    pub fn new<F: Field>(
         field: &F,
         variables: usize,
         points: usize,
         coordinates: &'a [u16],
-    ) -> Result<(), SubjectFault>
-        ensures answer { MatchResult result (λ _. PointsAdmitted (F.Field.arithmetic field.now).order variables points coordinates.now) (PointsRefused (F.Field.arithmetic field.now).order variables points coordinates.now) }
-        ensures after { MatchResult result (λ _. (self.new.variables ≡ variables) × (self.new.points ≡ points) × (self.new.coordinates.now ≡ coordinates.now)) (λ _. self.new ≡ self.old) }
+    ) -> Result<PointSet<'a>, SubjectFault>
+        ensures { MatchResult result (λ set. PointsAdmitted (F.Field.arithmetic field.now).order variables points coordinates.now × (set.variables ≡ variables) × (set.points ≡ points) × (set.coordinates.now ≡ coordinates.now)) (PointsRefused (F.Field.arithmetic field.now).order variables points coordinates.now) }
     {
         if variables == 0 || variables > MOST_VARIABLES {
             return Err(SubjectFault::Variables);
@@ -76,11 +74,26 @@ impl<'a> PointSet<'a> {
         if let Some(coordinate) = first_outside(field, coordinates) {
             return Err(SubjectFault::Code(coordinate));
         }
-        *self = PointSet {
+        Ok(PointSet {
             variables,
             points,
             coordinates,
-        };
+        })
+    }
+
+    // Makes this the set of these points, of as many coordinates as there are variables. Where the coordinates do not fit
+    // these numbers or the field, they are refused, and the set stays as it was.
+    pub fn set<F: Field>(
+        &mut self,
+        field: &F,
+        variables: usize,
+        points: usize,
+        coordinates: &'a [u16],
+    ) -> Result<(), SubjectFault>
+        ensures answer { MatchResult result (λ _. PointsAdmitted (F.Field.arithmetic field.now).order variables points coordinates.now) (PointsRefused (F.Field.arithmetic field.now).order variables points coordinates.now) }
+        ensures after { MatchResult result (λ _. (self.new.variables ≡ variables) × (self.new.points ≡ points) × (self.new.coordinates.now ≡ coordinates.now)) (λ _. self.new ≡ self.old) }
+    {
+        *self = PointSet::new(field, variables, points, coordinates)?;
         Ok(())
     }
 

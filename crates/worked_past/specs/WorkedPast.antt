@@ -1,5 +1,5 @@
 -- A past to which the long-run statement applies, with every kind of call.
-use Rattle.std.specs.Prelude.{◌≡◌, ℕ, Bool, List, [], ◌∷◌, length, Result}
+use Rattle.std.specs.Prelude.{◌≡◌, ℕ, Bool, List, [], ◌∷◌, length, Result, Option}
 use Rattle.faults.specs.declared.worksheet.WorksheetFault.{WorksheetFault}
 use Rattle.fields.specs.Residues.{residues}
 use Rattle.monomials.specs.Monomials.{Mono}
@@ -7,7 +7,8 @@ use Rattle.monomials.specs.Rules.{lexicographic}
 use Rattle.polynomials.specs.declared.term.Term.{Term}
 use Rattle.rows.specs.declared.line.Line.{Line}
 use Rattle.rows.specs.Ideals.{SetUp, Lawful, array_set_up}
-use Rattle.worksheet.specs.declared.answers.Step.{Step}
+use Rattle.monomials.specs.declared.monomial.Monomial.{Monomial}
+use Rattle.rows.specs.declared.verdict.Verdict.{Verdict}
 use Rattle.worksheet.specs.declared.answers.Ran.{Ran}
 use Rattle.worksheet.specs.Sheets.{Sheet, Done}
 use Rattle.worksheet.specs.Steps.{opened}
@@ -19,7 +20,7 @@ one_cell = array_set_up (1 ∷ []) (1 ∷ []) (residues 5) lexicographic
 
 -- a step and a run under the set-up, and then one question of each kind, with its arguments and answers
 pub record Calls : Type 0 where
-  pub stepped : Result Step WorksheetFault
+  pub stepped : Result (Option (Monomial × Verdict)) WorksheetFault
   pub ran : Result Ran WorksheetFault
   pub number : ℕ
   pub place : Line

@@ -1,5 +1,5 @@
 -- What the next call says of a sheet that is kept to its set-up.
-use Rattle.std.proofs.Common.{◌≡◌, ℕ, ◌+◌, ◌*◌, ◌<◌, ◌≤◌, ◌↔◌, List, length, take, Ok, Err, sym, refl, ap, ◌∙◌, subst, arith}
+use Rattle.std.proofs.Common.{◌≡◌, ℕ, ◌+◌, ◌*◌, ◌<◌, ◌≤◌, ◌↔◌, List, length, take, Ok, Err, sym, refl, ap, ◌∙◌, subst, arith, Some, None, Option}
 use mathlib.Core.Path.{subst⁻¹}
 use Rattle.std.proofs.lemmas.List.{length-take-le}
 use Rattle.faults.specs.declared.worksheet.WorksheetFault.{WorksheetFault}
@@ -11,8 +11,8 @@ use Rattle.rows.specs.Rows.{Row}
 use Rattle.rows.specs.Sheets.{Finished}
 use Rattle.rows.proofs.Firsts.{first_of_row, finished_length}
 use Rattle.rows.proofs.Counts.{lines_counted, lines_bounded}
-use Rattle.worksheet.specs.declared.answers.Step.{Step}
-use Rattle.worksheet.specs.declared.answers.Step.TheVariants.{Judged, Finished as finished}
+use Rattle.monomials.specs.declared.monomial.Monomial.{Monomial}
+use Rattle.rows.specs.declared.verdict.Verdict.{Verdict}
 use Rattle.worksheet.specs.declared.answers.Ending.{Ending}
 use Rattle.worksheet.specs.declared.answers.Ending.TheVariants as endings
 use Rattle.worksheet.specs.Sheets.{Sheet, judged, Done, Fits}
@@ -56,9 +56,9 @@ module _ (U : SetUp) (K : Lawful U) (lent row : List Line) (R : Row U row) where
       }
 
   -- what a step says
-  step_says : (n : ℕ) (s : Sheet) → Holds U lent n s → (answer : Step) (after : Sheet) → Steps U s (Ok answer) after → (answer ≡ finished) ↔ NoneMissing row s
-  step_says n s H finished after h = ((λ e. (done_or_missing n s H).0 h.1), λ e. refl)
-  step_says n s H (Judged a v) after h = (
+  step_says : (n : ℕ) (s : Sheet) → Holds U lent n s → (answer : Option (Monomial × Verdict)) (after : Sheet) → Steps U s (Ok answer) after → (answer ≡ None) ↔ NoneMissing row s
+  step_says n s H None after h = ((λ e. (done_or_missing n s H).0 h.1), λ e. refl)
+  step_says n s H (Some (a, v)) after h = (
     (λ e. let z : ◌≡◌ {A = ℕ} 0 1 = cc in absurd (omega arith)),
     (λ e. absurd (next_missing n s H (_, h.1.next) e)),
   )

@@ -1,5 +1,5 @@
 -- Whatever was called, a sheet kept to its set-up has lines kept to it, as many as were judged, and its unused lines as lent.
-use Rattle.std.proofs.Common.{◌≡◌, ℕ, zero, suc, ◌+◌, ◌<◌, ◌≤◌, List, [], ◌∷◌, length, drop, Ok, Err, sym, refl, ap, ◌∙◌, subst, add-zero, add_assoc, arith}
+use Rattle.std.proofs.Common.{◌≡◌, ℕ, zero, suc, ◌+◌, ◌<◌, ◌≤◌, List, [], ◌∷◌, length, drop, Ok, Err, sym, refl, ap, ◌∙◌, subst, add-zero, add_assoc, arith, Some, None}
 use mathlib.Core.Path.{subst⁻¹}
 use Rattle.std.proofs.lemmas.List.{length-set, take_more_set, drop-drop, drop-set-lt}
 use Rattle.faults.specs.declared.worksheet.WorksheetFault.{WorksheetFault}
@@ -12,7 +12,6 @@ use Rattle.rows.specs.Ideals.{SetUp, Lawful}
 use Rattle.rows.specs.Lines.{monomial_of}
 use Rattle.rows.specs.Sheets.{Next, Kept}
 use Rattle.rows.proofs.Existence.{none_kept, more_kept}
-use Rattle.worksheet.specs.declared.answers.Step.TheVariants.{Judged, Finished as finished}
 use Rattle.worksheet.specs.Sheets.{Sheet, judged}
 use Rattle.worksheet.specs.Steps.{opened, Judges, JudgesMany, Steps, Runs}
 use Rattle.worksheet.specs.Pasts.{Call, step, run, read, remainder, refill, score, Happens, Past, judged_by, judged_in, Had, KeptTo}
@@ -97,9 +96,9 @@ module _ (U : SetUp) (K : Lawful U) (lent : List Line) where
 
   -- a call
   call_holds : (c : Call) (n : ℕ) (s after : Sheet) → Holds U lent n s → Happens c s after → (0 < judged_by c → Had U c) → Holds U lent (n + judged_by c) after
-  call_holds (step V (Ok (Judged a v))) n s after H h had =
+  call_holds (step V (Ok (Some (a, v)))) n s after H h had =
       judged_holds n s a v after H (subst (λ W. Judges W s a v after) (had (omega arith)) h.1)
-  call_holds (step V (Ok finished)) n s after H h had = same_holds n s after H h.2
+  call_holds (step V (Ok None)) n s after H h had = same_holds n s after H h.2
   call_holds (step V (Err fault)) n s after H h had = same_holds n s after H (step_refused V s after fault h)
   call_holds (run V (Ok ran)) n s after H h had = go ran.judged had h.1
     where

@@ -1,5 +1,5 @@
 -- What holds of a worksheet after opening and any list of calls.
-use Rattle.std.specs.Prelude.{◌≡◌, ℕ, ◌+◌, ◌*◌, ◌<◌, ◌≤◌, Bool, true, ◌↔◌, List, length, take, drop, Ok, Err, Result, slice_index}
+use Rattle.std.specs.Prelude.{◌≡◌, ℕ, ◌+◌, ◌*◌, ◌<◌, ◌≤◌, Bool, true, ◌↔◌, List, length, take, drop, Ok, Err, Result, slice_index, None, Option}
 use Rattle.faults.specs.declared.worksheet.WorksheetFault.{WorksheetFault}
 use Rattle.fields.specs.Arithmetic.{Arithmetic}
 use Rattle.monomials.specs.Monomials.{Mono}
@@ -14,8 +14,8 @@ use Rattle.rows.specs.Lines.{stairs_of, relations_of, on_stairs}
 use Rattle.rows.specs.Rows.{Row, OneRow}
 use Rattle.rows.specs.Continuation.{InfiniteArray, OwnCodes, OneContinuation}
 use Rattle.rows.specs.Remainders.{minus}
-use Rattle.worksheet.specs.declared.answers.Step.{Step}
-use Rattle.worksheet.specs.declared.answers.Step.TheVariants.{Finished as finished}
+use Rattle.monomials.specs.declared.monomial.Monomial.{Monomial}
+use Rattle.rows.specs.declared.verdict.Verdict.{Verdict}
 use Rattle.worksheet.specs.declared.answers.Ran.{Ran}
 use Rattle.worksheet.specs.declared.answers.Ending.TheVariants as endings
 use Rattle.worksheet.specs.Sheets.{Sheet, judged}
@@ -41,7 +41,7 @@ pub record AnswersHold (U : SetUp) (row : List Line) (past : List Call) (s : She
   pub reading : (number : ℕ) (place : Line) (says : Bool) (place_after : Line) → Reads number s place (Ok says) place_after →
       (says ≡ true) ↔ NoneMissing row s
   -- so does a step under the set-up
-  pub step : (answer : Step) (after : Sheet) → Steps U s (Ok answer) after → (answer ≡ finished) ↔ NoneMissing row s
+  pub step : (answer : Option (Monomial × Verdict)) (after : Sheet) → Steps U s (Ok answer) after → (answer ≡ None) ↔ NoneMissing row s
   -- which is refused only while one is missing and no line is unused
   pub step_refused : (fault : WorksheetFault) (after : Sheet) → Steps U s (Err fault) after → (s.used < length row) × (s.used ≡ length s.lines)
   -- a run under the set-up is not refused, and says finished exactly when none is missing after it

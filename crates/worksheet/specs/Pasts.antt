@@ -1,5 +1,5 @@
 -- A past: calls with their answers, each tied to the sheets before and after by the relation that is its contract.
-use Rattle.std.specs.Prelude.{◌≡◌, ℕ, ◌+◌, ◌<◌, Bool, List, [], ◌∷◌, Ok, Err, Result}
+use Rattle.std.specs.Prelude.{◌≡◌, ℕ, ◌+◌, ◌<◌, Bool, List, [], ◌∷◌, Ok, Err, Result, Some, None, Option}
 use Rattle.faults.specs.declared.worksheet.WorksheetFault.{WorksheetFault}
 use Rattle.fields.specs.Arithmetic.{Arithmetic}
 use Rattle.monomials.specs.Monomials.{Mono}
@@ -7,8 +7,8 @@ use Rattle.polynomials.specs.declared.term.Term.{Term}
 use Rattle.polynomials.specs.Subjects.{SubjectMeaning}
 use Rattle.rows.specs.declared.line.Line.{Line}
 use Rattle.rows.specs.Ideals.{SetUp}
-use Rattle.worksheet.specs.declared.answers.Step.{Step}
-use Rattle.worksheet.specs.declared.answers.Step.TheVariants.{Judged, Finished as finished}
+use Rattle.monomials.specs.declared.monomial.Monomial.{Monomial}
+use Rattle.rows.specs.declared.verdict.Verdict.{Verdict}
 use Rattle.worksheet.specs.declared.answers.Ran.{Ran}
 use Rattle.worksheet.specs.Sheets.{Sheet}
 use Rattle.worksheet.specs.Steps.{Steps, Runs}
@@ -16,7 +16,7 @@ use Rattle.worksheet.specs.Questions.{Reads, Leaves, Refills, Scores}
 
 -- a call: its arguments, its answer, and what was lent, before and after
 pub data Call : Type 0 where
-  step : SetUp → Result Step WorksheetFault → Call
+  step : SetUp → Result (Option (Monomial × Verdict)) WorksheetFault → Call
   run : SetUp → Result Ran WorksheetFault → Call
   read : ℕ → Line → Result Bool WorksheetFault → Line → Call
   remainder : SubjectMeaning → Arithmetic → List Term → List ℕ → Result (Unit {0}) WorksheetFault → List ℕ → Call
@@ -39,8 +39,8 @@ Past (c ∷ cs) s after = (between : Sheet) × Happens c s between × Past cs be
 
 -- how many monomials a call judged: a judging step one, a run the number that it answers
 abbrev pub judged_by : Call → ℕ
-judged_by (step U (Ok (Judged monomial verdict))) = 1
-judged_by (step U (Ok finished)) = 0
+judged_by (step U (Ok (Some judgement))) = 1
+judged_by (step U (Ok None)) = 0
 judged_by (step U (Err fault)) = 0
 judged_by (run U (Ok ran)) = ran.judged
 judged_by (run U (Err fault)) = 0

@@ -1,5 +1,5 @@
 -- What opening, a step and a run do: the sheet before, the answer, the sheet after.
-use Rattle.std.specs.Prelude.{◌≡◌, ℕ, zero, suc, ◌+◌, ◌<◌, List, length, Ok, Err, Result, slice_set}
+use Rattle.std.specs.Prelude.{◌≡◌, ℕ, zero, suc, ◌+◌, ◌<◌, List, length, Ok, Err, Result, slice_set, Some, None, Option}
 use Rattle.faults.specs.declared.worksheet.WorksheetFault.{WorksheetFault}
 use Rattle.faults.specs.declared.worksheet.WorksheetFault.TheVariants.{Code, OtherSetUp, Unfinished, NoLineLeft, LineNumber, Exponent, Length, Subject}
 use Rattle.fields.specs.Arithmetic.{Arithmetic}
@@ -11,8 +11,6 @@ use Rattle.rows.specs.declared.verdict.Verdict.{Verdict}
 use Rattle.rows.specs.Ideals.{SetUp}
 use Rattle.rows.specs.Lines.{Stands, AllStand}
 use Rattle.rows.specs.Sheets.{Next}
-use Rattle.worksheet.specs.declared.answers.Step.{Step}
-use Rattle.worksheet.specs.declared.answers.Step.TheVariants.{Judged, Finished as finished}
 use Rattle.worksheet.specs.declared.answers.Ran.{Ran}
 use Rattle.worksheet.specs.declared.answers.Ending.{Ending}
 use Rattle.worksheet.specs.declared.answers.Ending.TheVariants as endings
@@ -56,10 +54,10 @@ pub record Judges (U : SetUp) (s : Sheet) (monomial : Monomial) (verdict : Verdi
 abbrev pub SomeNext : SetUp → Sheet → Type 0
 SomeNext U s = (a : Mono) × Next s.variables U.order (judged s) a
 
--- a step judges, or finds the sheet finished; it is refused by other numbers, then for want of a line
-abbrev pub Steps : SetUp → Sheet → Result Step WorksheetFault → Sheet → Type 0
-Steps U s (Ok (Judged monomial verdict)) after = Fits U.subject U.field s × Judges U s monomial verdict after
-Steps U s (Ok finished) after = Fits U.subject U.field s × Done s × (after ≡ s)
+-- a step judges, or finds the sheet finished and answers nothing; it is refused by other numbers, then for want of a line
+abbrev pub Steps : SetUp → Sheet → Result (Option (Monomial × Verdict)) WorksheetFault → Sheet → Type 0
+Steps U s (Ok (Some (monomial, verdict))) after = Fits U.subject U.field s × Judges U s monomial verdict after
+Steps U s (Ok None) after = Fits U.subject U.field s × Done s × (after ≡ s)
 Steps U s (Err OtherSetUp) after = (Fits U.subject U.field s → ⊥) × (after ≡ s)
 Steps U s (Err NoLineLeft) after = Fits U.subject U.field s × SomeNext U s × (s.used ≡ length s.lines) × (after ≡ s)
 Steps U s (Err (Code place)) after = ⊥

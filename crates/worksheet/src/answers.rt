@@ -1,15 +1,4 @@
 // What the worksheet answers.
-use monomials::Monomial;
-use rows::Verdict;
-
-// Of a step.
-#[derive(Clone, Copy)]
-pub enum Step {
-    // this monomial was judged to be this
-    Judged(Monomial, Verdict),
-    // nothing waits
-    Finished,
-}
 
 // Why a run ended.
 #[derive(Clone, Copy)]

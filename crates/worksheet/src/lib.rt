@@ -14,5 +14,5 @@ mod stepping;
 mod summing;
 mod worksheet;
 
-pub use answers::{Ending, Ran, Step, Summary};
+pub use answers::{Ending, Ran, Summary};
 pub use worksheet::Worksheet;

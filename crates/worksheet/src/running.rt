@@ -3,7 +3,7 @@ ghost use Rattle.worksheet.specs.Sheets.{set_up};
 ghost use Rattle.worksheet.specs.Steps.{Runs};
 ghost use Rattle.worksheet.specs.Views.{sheet};
 
-use crate::answers::{Ending, Ran, Step};
+use crate::answers::{Ending, Ran};
 use crate::worksheet::Worksheet;
 use faults::WorksheetFault;
 use fields::Field;
@@ -31,12 +31,12 @@ impl<'a> Worksheet<'a> {
                     ending: Ending::Full,
                 });
             };
-            if let Step::Finished = step {
+            let Some(_judged) = step else {
                 return Ok(Ran {
                     judged: self.used - start,
                     ending: Ending::Finished,
                 });
-            }
+            };
         }
     }
 }

@@ -6,7 +6,6 @@ ghost use Rattle.worksheet.specs.Sheets.{judged, set_up, Fits};
 ghost use Rattle.worksheet.specs.Steps.{WritesVerdict, Steps};
 ghost use Rattle.worksheet.specs.Views.{sheet};
 
-use crate::answers::Step;
 use crate::worksheet::Worksheet;
 use elimination::line_of;
 use faults::WorksheetFault;
@@ -44,25 +43,24 @@ impl<'a> Worksheet<'a> {
         (line.monomial, line.verdict)
     }
 
-    // Judges the next monomial into the first unused line.
+    // Judges the next monomial into the first unused line, and answers it with its verdict; none where the sheet is finished.
     pub fn step<S: Subject, F: Field, O: MonomialOrder>(
         &mut self,
         subject: &S,
         field: &F,
         order: &O,
-    ) -> Result<Step, WorksheetFault>
+    ) -> Result<Option<(Monomial, Verdict)>, WorksheetFault>
         ensures { Steps (set_up (S.Subject.meaning subject.now) (F.Field.arithmetic field.now) (O.MonomialOrder.order order.now)) (sheet self.old) result (sheet self.new) }
     {
         if !self.fits(subject, field) {
             return Err(WorksheetFault::OtherSetUp);
         }
         let Some(monomial) = self.next_monomial(order) else {
-            return Ok(Step::Finished);
+            return Ok(None);
         };
         if self.used == self.lent.count() {
             return Err(WorksheetFault::NoLineLeft);
         }
-        let (monomial, verdict) = self.judge(subject, field, monomial);
-        Ok(Step::Judged(monomial, verdict))
+        Ok(Some(self.judge(subject, field, monomial)))
     }
 }

@@ -1,7 +1,12 @@
--- The array begins as zeros, and each turn writes one place.
-use Rattle.std.proofs.Common.{refl, arith}
-use Rattle.fields.proofs.Zeros.{zeros}
+-- A subject is at most 64 positions wide.
+use Rattle.std.proofs.Common.{◌<◌, arith, rules}
 use Rattle.elimination.proofs.images.polynomial_images.Goals as goal
 
-pub loop-position-init : goal.loop-position-init
-loop-position-init g c = (refl, (λ j h. absurd (omega arith)), (λ j h. zeros 64 j))
+pub returns : goal.returns
+returns g c = record {
+  inside = λ k h.
+      let narrow : k < 64 = omega (arith, (g.S.Subject.laws c.args.subject.now).narrow) in
+      let inside : k < c.width.result = omega (arith, c.width.ensures) in
+      search (rules, c.row.ensures.inside k inside narrow);
+  past = λ k h. c.row.ensures.past k (omega (arith, c.width.ensures));
+}

@@ -1,13 +1,17 @@
--- An exponent above its limit is not fine.
-use Rattle.std.proofs.Common.{arith}
-use Rattle.polynomials.proofs.Terms.{fine}
+-- Where only the first variables occur, the chain answers whether each exponent is small.
+use Rattle.std.proofs.Common.{◌≡◌, nat_le, MatchBool, subst, sym, arith, rules, tests}
+use Rattle.std.proofs.lemmas.Iterator.{YieldsList-from_slice}
+use Rattle.std.proofs.lemmas.Iterator.Search.{all_from_yields_List}
+use Rattle.std.specs.List.{list_all}
+use Rattle.monomials.specs.Monomials.{mono}
+use Rattle.polynomials.specs.Terms.{Admitted}
+use Rattle.polynomials.proofs.Terms.{admitted_cases}
 use Rattle.polynomials.proofs.term_faults.is_admitted.Goals as goal
-use Rattle.polynomials.proofs.term_faults.is_admitted.Goals.{then-v-variables, else-v-variables}
 
-pub returns-then-exponent-limit : goal.returns-then-exponent-limit
-returns-then-exponent-limit c a =
-    let f = fine c.args.variables c.args.monomial.now.exponents a c.loop-v.v c.loop-v-test.true in
-    elim c.if-v-variables.branch [
-      | then-v-variables w ↦ omega (arith, w.limit-is, f.small)
-      | else-v-variables w ↦ omega (arith, w.limit-is, f.zero_beyond w.if-v-variables.false)
-    ]
+pub returns-then-is_within : goal.returns-then-is_within
+returns-then-is_within c =
+    let m = c.args.variables in
+    let es = c.args.monomial.now.exponents in
+    let value : c.all.result ≡ list_all (λ e. nat_le e 4095) es =
+    all_from_yields_List (λ e. nat_le e 4095) _ _ c.all.result c.all.ensures.ran (YieldsList-from_slice es c.iter.ensures.rest) (λ x b q k. search (rules, tests)) in
+    subst (λ r. MatchBool r (Admitted m (mono es)) (Admitted m (mono es) → ⊥)) (sym value) (admitted_cases m es (omega arith) (search rules))

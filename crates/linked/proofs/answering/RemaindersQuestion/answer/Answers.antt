@@ -3,7 +3,7 @@ use Rattle.std.proofs.Common.{◌≡◌, ◌+◌, ◌*◌, ◌/◌, ◌<◌, min
 use Rattle.worksheet.specs.Questions.{stairs_in, RemainderRefused}
 use Rattle.worksheet.specs.Views.{sheet}
 use Rattle.linked.specs.Answers.{RemainderAt, Remaindered}
-use Rattle.linked.proofs.answering.remainders.Goals as goal
+use Rattle.linked.proofs.answering.RemaindersQuestion.answer.Goals as goal
 
 pub returns-in-Err : goal.returns-in-Err
 returns-in-Err g c =
@@ -12,7 +12,7 @@ returns-in-Err g c =
     let s = sheet c.args.sheet.now in
     let n = c.loop-number.number in
     let few : c.places-stairs.result ≡ min (stairs_in s) 64 = c.places-stairs.ensures in
-    let taken : n < length c.args.asked.now / 320 = c.loop-number-test.true in
+    let taken : n < length c.args.self.now.polynomials.now / 320 = c.loop-number-test.true in
     let ts = c.terms_from-terms.result in
     let fault = c.in-Err._fault in
     let e = c.in-Err.ensures.is in
@@ -38,7 +38,7 @@ loop-number-preserved g c =
     let S = g.S.Subject.meaning c.args.subject.now in
     let A = g.F.Field.arithmetic c.args.field.now in
     let s = sheet c.args.sheet.now in
-    let asked = c.args.asked.now in
+    let asked = c.args.self.now.polynomials.now in
     let n = c.loop-number.number in
     let now = c.write_remainder.new.out in
     let few : c.places-stairs.result ≡ min (stairs_in s) 64 = c.places-stairs.ensures in
