@@ -1,19 +1,8 @@
 // Fields of both kinds.
-use fields::{Binary, Residue};
+use fields::ListedField;
 use std::test::Fail;
 
-// The residues by a modulus.
-pub(crate) fn residues(modulus: u16) -> Result<Residue, Fail> {
-    match Residue::new(modulus) {
-        Ok(field) => Ok(field),
-        Err(_) => Err(Fail::new("the modulus is refused")),
-    }
-}
-
-// The binary codes of a degree.
-pub(crate) fn binaries(degree: u16) -> Result<Binary, Fail> {
-    match Binary::new(degree) {
-        Ok(field) => Ok(field),
-        Err(_) => Err(Fail::new("the degree is refused")),
-    }
+// The field that a number names: the residues by a modulus, or the binary field of a degree.
+pub(crate) fn field<F: ListedField>(number: u16) -> Result<F, Fail> {
+    F::new(number).map_err(|_| Fail::new("the number names no field"))
 }

@@ -1,5 +1,6 @@
 // Examples of values at points.
-use crate::kinds::{binaries, residues};
+use crate::kinds::field;
+use fields::{Binary, Residue};
 use polynomials::Term;
 use std::test::Fail;
 use subjects::{Finding, PointSet, Subject, check};
@@ -16,7 +17,7 @@ const SMALL_CODES: [u16; 64] = [
 
 #[test]
 fn corners_by_modulus_5(rt: HostRuntime) -> Result<(), Fail> {
-    let field = residues(5)?;
+    let field = field::<Residue>(5)?;
     let mut set = PointSet::unit();
     set.set(&field, 2, 3, &CORNERS)?;
     let v_squared = [Term::new([0, 2, 0, 0], 1), Term::new([0, 1, 0, 0], 4)];
@@ -37,7 +38,7 @@ fn corners_by_modulus_5(rt: HostRuntime) -> Result<(), Fail> {
 // At 0, the power of exponent 0 is 1, and that of exponent 5 is 0.
 #[test]
 fn powers_of_zero(rt: HostRuntime) -> Result<(), Fail> {
-    let field = residues(5)?;
+    let field = field::<Residue>(5)?;
     let mut set = PointSet::unit();
     set.set(&field, 1, 1, &[0])?;
     assert_eq!(rt; set.value_at(&field, &[Term::new([0, 0, 0, 0], 1)], 0), 1);
@@ -51,7 +52,7 @@ fn powers_of_zero(rt: HostRuntime) -> Result<(), Fail> {
 // By Fermat the power at 65,535 is that at 255 for modulus 257, and that at 15 for modulus 65521.
 #[test]
 fn powers_at_the_largest_exponent(rt: HostRuntime) -> Result<(), Fail> {
-    let field = residues(257)?;
+    let field = field::<Residue>(257)?;
     let mut set = PointSet::unit();
     set.set(&field, 2, 3, &[3, 5, 256, 0, 0, 2])?;
     let largest = [Term::new([65535, 65535, 0, 0], 1)];
@@ -63,7 +64,7 @@ fn powers_at_the_largest_exponent(rt: HostRuntime) -> Result<(), Fail> {
     ];
     assert_eq!(rt; set.value_at(&field, &two, 0), 45);
     assert_eq!(rt; set.value_at(&field, &two, 2), 100);
-    let field = residues(65521)?;
+    let field = field::<Residue>(65521)?;
     set.set(&field, 4, 2, &[3, 17, 65520, 2, 0, 1, 2, 3])?;
     let three = [
         Term::new([65535, 1, 3, 4], 5),
@@ -77,7 +78,7 @@ fn powers_at_the_largest_exponent(rt: HostRuntime) -> Result<(), Fail> {
 
 #[test]
 fn points_of_degree_8(rt: HostRuntime) -> Result<(), Fail> {
-    let field = binaries(8)?;
+    let field = field::<Binary>(8)?;
     let mut set = PointSet::unit();
     set.set(&field, 2, 3, &[0x57, 0x83, 0x53, 0xCA, 0x01, 0xFF])?;
     let product = [Term::new([1, 1, 0, 0], 1)];
@@ -98,7 +99,7 @@ fn points_of_degree_8(rt: HostRuntime) -> Result<(), Fail> {
 // The product of u + c for the codes c from 0 to 63, whose exponents are powers of two.
 #[test]
 fn sixty_four_points_of_degree_8(rt: HostRuntime) -> Result<(), Fail> {
-    let field = binaries(8)?;
+    let field = field::<Binary>(8)?;
     let mut set = PointSet::unit();
     set.set(&field, 1, 64, &SMALL_CODES)?;
     let vanishing = [
@@ -119,7 +120,7 @@ fn sixty_four_points_of_degree_8(rt: HostRuntime) -> Result<(), Fail> {
 // Repeated points are taken. A coordinate that is not below the order of another field counts as its remainder.
 #[test]
 fn repeated_points_and_another_field(rt: HostRuntime) -> Result<(), Fail> {
-    let field = residues(257)?;
+    let field = field::<Residue>(257)?;
     let mut set = PointSet::unit();
     set.set(&field, 2, 2, &[7, 9, 7, 9])?;
     assert_eq!(rt; set.variables(), 2);
@@ -127,6 +128,6 @@ fn repeated_points_and_another_field(rt: HostRuntime) -> Result<(), Fail> {
     let product = [Term::new([1, 1, 0, 0], 1)];
     assert_eq!(rt; set.value_at(&field, &product, 0), 63);
     assert_eq!(rt; set.value_at(&field, &product, 1), 63);
-    assert_eq!(rt; set.value_at(&residues(5)?, &product, 1), 3);
+    assert_eq!(rt; set.value_at(&field::<Residue>(5)?, &product, 1), 3);
     Ok(())
 }

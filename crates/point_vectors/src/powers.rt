@@ -1,6 +1,6 @@
 // Examples of powers.
-use crate::kinds::{binaries, residues};
-use fields::power;
+use crate::kinds::field;
+use fields::{Binary, Residue, power};
 use std::test::Fail;
 
 // modulus, base, exponent, power. The powers at 65,535 are by Fermat: a^(p − 1) is 1 unless p divides a.
@@ -50,7 +50,7 @@ const DEGREE_8_POWERS: [(u16, u16, u16); 11] = [
 #[test]
 fn powers_of_residues(rt: HostRuntime) -> Result<(), Fail> {
     for (modulus, base, exponent, expected) in RESIDUE_POWERS {
-        let field = residues(modulus)?;
+        let field = field::<Residue>(modulus)?;
         assert_eq!(rt; power(&field, base, exponent), expected);
     }
     Ok(())
@@ -58,7 +58,7 @@ fn powers_of_residues(rt: HostRuntime) -> Result<(), Fail> {
 
 #[test]
 fn powers_of_binary_codes(rt: HostRuntime) -> Result<(), Fail> {
-    let field = binaries(8)?;
+    let field = field::<Binary>(8)?;
     for (base, exponent, expected) in DEGREE_8_POWERS {
         assert_eq!(rt; power(&field, base, exponent), expected);
     }
