@@ -5,8 +5,9 @@ ghost use Rattle.std.specs.Prelude.{◌≡◌, [], ◌∷◌};
 
 mod examination;
 
-use examination::{examine_binary, examine_points, examine_residues};
-use faults::{Fault, WorksheetFault};
+use examination::{examine_pattern, examine_points};
+use faults::{Refusal, WorksheetFault};
+use fields::{Binary, Residue};
 use polynomials::Term;
 use std::io;
 use subjects::Finding;
@@ -27,7 +28,7 @@ fn report(
     match outcome {
         Ok(finding) => println!(rt; "  {claim}: {finding}"),
         Err(fault) => {
-            let refusal = fault.refusal();
+            let refusal = Refusal::from(fault);
             println!(rt; "  {claim}: {refusal}")
         }
     }
@@ -43,9 +44,13 @@ fn show_sequence(rt: &HostRuntime) -> io::Result<()> {
     report(
         rt,
         "u^2 + 8u + 2",
-        examine_residues(11, &period, &cells, &relation),
+        examine_pattern::<Residue>(11, &period, &cells, &relation),
     )?;
-    report(rt, "u + 1", examine_residues(11, &period, &cells, &other))
+    report(
+        rt,
+        "u + 1",
+        examine_pattern::<Residue>(11, &period, &cells, &other),
+    )
 }
 
 // u + v and v² + 10 hold on a pattern of 2 by 2.
@@ -55,11 +60,15 @@ fn show_square(rt: &HostRuntime) -> io::Result<()> {
     let sum = [term(1, 0, 1), term(0, 1, 1)];
     let square = [term(0, 2, 1), term(0, 0, 10)];
     println!(rt; "modulus 11, period 2 by 2, cells 3 1 10 8")?;
-    report(rt, "u + v", examine_residues(11, &periods, &cells, &sum))?;
+    report(
+        rt,
+        "u + v",
+        examine_pattern::<Residue>(11, &periods, &cells, &sum),
+    )?;
     report(
         rt,
         "v^2 + 10",
-        examine_residues(11, &periods, &cells, &square),
+        examine_pattern::<Residue>(11, &periods, &cells, &square),
     )
 }
 
@@ -69,12 +78,20 @@ fn show_binary_pattern(rt: &HostRuntime) -> io::Result<()> {
     let cells = [1, 2, 3];
     let relation = [term(1, 0, 1), term(0, 0, 2)];
     println!(rt; "degree 2, period 3, cells 1 2 3")?;
-    report(rt, "u + 2", examine_binary(2, &period, &cells, &relation))?;
+    report(
+        rt,
+        "u + 2",
+        examine_pattern::<Binary>(2, &period, &cells, &relation),
+    )?;
     let square = [8, 8];
     let ones = [255; 64];
     let difference = [term(1, 0, 1), term(0, 1, 1)];
     println!(rt; "degree 8, period 8 by 8, every cell 255")?;
-    report(rt, "u + v", examine_binary(8, &square, &ones, &difference))
+    report(
+        rt,
+        "u + v",
+        examine_pattern::<Binary>(8, &square, &ones, &difference),
+    )
 }
 
 // v² + 4v, uv and u² + 4u hold on three points, and u + v does not.
@@ -85,10 +102,26 @@ fn show_points(rt: &HostRuntime) -> io::Result<()> {
     let u_squared = [term(2, 0, 1), term(1, 0, 4)];
     let sum = [term(1, 0, 1), term(0, 1, 1)];
     println!(rt; "modulus 5, points (0,0) (1,0) (0,1)")?;
-    report(rt, "v^2 + 4v", examine_points(5, 2, 3, &points, &v_squared))?;
-    report(rt, "uv", examine_points(5, 2, 3, &points, &product))?;
-    report(rt, "u^2 + 4u", examine_points(5, 2, 3, &points, &u_squared))?;
-    report(rt, "u + v", examine_points(5, 2, 3, &points, &sum))
+    report(
+        rt,
+        "v^2 + 4v",
+        examine_points::<Residue>(5, 2, 3, &points, &v_squared),
+    )?;
+    report(
+        rt,
+        "uv",
+        examine_points::<Residue>(5, 2, 3, &points, &product),
+    )?;
+    report(
+        rt,
+        "u^2 + 4u",
+        examine_points::<Residue>(5, 2, 3, &points, &u_squared),
+    )?;
+    report(
+        rt,
+        "u + v",
+        examine_points::<Residue>(5, 2, 3, &points, &sum),
+    )
 }
 
 // What patterns and points are refused for.
@@ -99,29 +132,37 @@ fn show_pattern_refusals(rt: &HostRuntime) -> io::Result<()> {
     report(
         rt,
         "modulus 256",
-        examine_residues(256, &[1], &cell, &claim),
+        examine_pattern::<Residue>(256, &[1], &cell, &claim),
     )?;
-    report(rt, "degree 5", examine_binary(5, &[1], &cell, &claim))?;
+    report(
+        rt,
+        "degree 5",
+        examine_pattern::<Binary>(5, &[1], &cell, &claim),
+    )?;
     report(
         rt,
         "5 periods",
-        examine_residues(11, &[1, 1, 1, 1, 1], &cell, &claim),
+        examine_pattern::<Residue>(11, &[1, 1, 1, 1, 1], &cell, &claim),
     )?;
     report(
         rt,
         "period 13 by 5",
-        examine_residues(11, &[13, 5], &cell, &claim),
+        examine_pattern::<Residue>(11, &[13, 5], &cell, &claim),
     )?;
-    report(rt, "65 points", examine_points(11, 1, 65, &cell, &claim))?;
+    report(
+        rt,
+        "65 points",
+        examine_points::<Residue>(11, 1, 65, &cell, &claim),
+    )?;
     report(
         rt,
         "period 2 by 2, 1 cell",
-        examine_residues(11, &[2, 2], &cell, &claim),
+        examine_pattern::<Residue>(11, &[2, 2], &cell, &claim),
     )?;
     report(
         rt,
         "cells 3 10 11",
-        examine_residues(11, &[3], &[3, 10, 11], &claim),
+        examine_pattern::<Residue>(11, &[3], &[3, 10, 11], &claim),
     )
 }
 
@@ -136,14 +177,18 @@ fn show_term_refusals(rt: &HostRuntime) -> io::Result<()> {
     report(
         rt,
         "u + 11",
-        examine_residues(11, &period, &cells, &high_code),
+        examine_pattern::<Residue>(11, &period, &cells, &high_code),
     )?;
     report(
         rt,
         "u^4096",
-        examine_residues(11, &period, &cells, &high_exponent),
+        examine_pattern::<Residue>(11, &period, &cells, &high_exponent),
     )?;
-    report(rt, "u + v", examine_residues(11, &period, &cells, &beyond))
+    report(
+        rt,
+        "u + v",
+        examine_pattern::<Residue>(11, &period, &cells, &beyond),
+    )
 }
 
 fn main(rt: HostRuntime) -> io::Result<()> {

@@ -1,6 +1,7 @@
 // Examples of the binary fields.
-use faults::Fault;
-use fields::{Binary, Field};
+use crate::kinds::field;
+use faults::Refusal;
+use fields::{Binary, Field, ListedField};
 use std::test::Fail;
 
 // degree, order
@@ -142,18 +143,11 @@ const ZEROS: [(u16, u16); 9] = [
     (8, 0xFF00),
 ];
 
-fn field(degree: u16) -> Result<Binary, Fail> {
-    match Binary::new(degree) {
-        Ok(field) => Ok(field),
-        Err(_) => Err(Fail::new("the degree is refused")),
-    }
-}
-
 #[test]
 fn takes_the_listed_degrees(rt: HostRuntime) -> Result<(), Fail> {
-    assert_eq!(rt; <Binary as Field>::largest_order(), 256);
+    assert_eq!(rt; <Binary as Field>::LARGEST, 256);
     for (degree, order) in TAKEN {
-        assert_eq!(rt; field(degree)?.order(), order);
+        assert_eq!(rt; field::<Binary>(degree)?.order(), order);
     }
     Ok(())
 }
@@ -163,7 +157,7 @@ fn refuses_other_degrees(rt: HostRuntime) -> Result<(), Fail> {
     for degree in REFUSED {
         match Binary::new(degree) {
             Ok(_) => return Err(Fail::new("the degree is taken")),
-            Err(fault) => assert_eq!(rt; fault.refusal().ground, 4),
+            Err(fault) => assert_eq!(rt; Refusal::from(fault).ground, 4),
         }
     }
     Ok(())
@@ -171,7 +165,7 @@ fn refuses_other_degrees(rt: HostRuntime) -> Result<(), Fail> {
 
 #[test]
 fn multiplies_in_degree_2(rt: HostRuntime) -> Result<(), Fail> {
-    let field = field(2)?;
+    let field = field::<Binary>(2)?;
     for (a, b, product) in TABLE {
         assert_eq!(rt; field.product(a, b), product);
     }
@@ -181,7 +175,7 @@ fn multiplies_in_degree_2(rt: HostRuntime) -> Result<(), Fail> {
 #[test]
 fn multiplies(rt: HostRuntime) -> Result<(), Fail> {
     for (degree, a, b, product) in PRODUCTS {
-        assert_eq!(rt; field(degree)?.product(a, b), product);
+        assert_eq!(rt; field::<Binary>(degree)?.product(a, b), product);
     }
     Ok(())
 }
@@ -189,7 +183,7 @@ fn multiplies(rt: HostRuntime) -> Result<(), Fail> {
 #[test]
 fn counts_numbers_as_remainders(rt: HostRuntime) -> Result<(), Fail> {
     for (degree, a, b, sum, negative, product) in WRAPPED {
-        let field = field(degree)?;
+        let field = field::<Binary>(degree)?;
         assert_eq!(rt; field.sum(a, b), sum);
         assert_eq!(rt; field.negative(a), negative);
         assert_eq!(rt; field.product(a, b), product);
@@ -200,14 +194,14 @@ fn counts_numbers_as_remainders(rt: HostRuntime) -> Result<(), Fail> {
 #[test]
 fn inverts_small_codes(rt: HostRuntime) -> Result<(), Fail> {
     for (degree, a, inverse) in SMALL_INVERSES {
-        assert_eq!(rt; field(degree)?.inverse(a), Some(inverse));
+        assert_eq!(rt; field::<Binary>(degree)?.inverse(a), Some(inverse));
     }
     Ok(())
 }
 
 #[test]
 fn inverts_every_code_of_degree_8(rt: HostRuntime) -> Result<(), Fail> {
-    let field = field(8)?;
+    let field = field::<Binary>(8)?;
     for a in 1..256 {
         let inverse = INVERSES[(a / 8) as usize][(a % 8) as usize];
         assert_eq!(rt; field.inverse(a), Some(inverse));
@@ -219,7 +213,7 @@ fn inverts_every_code_of_degree_8(rt: HostRuntime) -> Result<(), Fail> {
 #[test]
 fn zero_has_no_inverse(rt: HostRuntime) -> Result<(), Fail> {
     for (degree, a) in ZEROS {
-        assert_eq!(rt; field(degree)?.inverse(a), None);
+        assert_eq!(rt; field::<Binary>(degree)?.inverse(a), None);
     }
     Ok(())
 }

@@ -4,4 +4,6 @@
 #[cfg(test)]
 mod binary;
 #[cfg(test)]
+mod kinds;
+#[cfg(test)]
 mod residue;

@@ -1,6 +1,7 @@
 // Examples of the residues.
-use faults::Fault;
-use fields::{Field, Residue};
+use crate::kinds::field;
+use faults::Refusal;
+use fields::{Field, ListedField, Residue};
 use std::test::Fail;
 
 // the moduli that are taken, but the largest
@@ -62,19 +63,12 @@ const ZEROS: [(u16, u16); 6] = [
     (65521, 65521),
 ];
 
-fn field(modulus: u16) -> Result<Residue, Fail> {
-    match Residue::new(modulus) {
-        Ok(field) => Ok(field),
-        Err(_) => Err(Fail::new("the modulus is refused")),
-    }
-}
-
 #[test]
 fn takes_the_listed_moduli(rt: HostRuntime) -> Result<(), Fail> {
-    assert_eq!(rt; <Residue as Field>::largest_order(), 65521);
-    assert_eq!(rt; field(LARGEST)?.order(), 65521);
+    assert_eq!(rt; <Residue as Field>::LARGEST, 65521);
+    assert_eq!(rt; field::<Residue>(LARGEST)?.order(), 65521);
     for modulus in SMALL_MODULI {
-        assert_eq!(rt; field(modulus)?.order(), u32::from(modulus));
+        assert_eq!(rt; field::<Residue>(modulus)?.order(), u32::from(modulus));
     }
     Ok(())
 }
@@ -84,7 +78,7 @@ fn refuses_other_moduli(rt: HostRuntime) -> Result<(), Fail> {
     for modulus in REFUSED {
         match Residue::new(modulus) {
             Ok(_) => return Err(Fail::new("the modulus is taken")),
-            Err(fault) => assert_eq!(rt; fault.refusal().ground, 4),
+            Err(fault) => assert_eq!(rt; Refusal::from(fault).ground, 4),
         }
     }
     Ok(())
@@ -93,7 +87,7 @@ fn refuses_other_moduli(rt: HostRuntime) -> Result<(), Fail> {
 #[test]
 fn adds_negates_and_multiplies(rt: HostRuntime) -> Result<(), Fail> {
     for (modulus, a, b, sum, negative, product) in OPERATIONS {
-        let field = field(modulus)?;
+        let field = field::<Residue>(modulus)?;
         assert_eq!(rt; field.sum(a, b), sum);
         assert_eq!(rt; field.negative(a), negative);
         assert_eq!(rt; field.product(a, b), product);
@@ -104,7 +98,7 @@ fn adds_negates_and_multiplies(rt: HostRuntime) -> Result<(), Fail> {
 #[test]
 fn inverts(rt: HostRuntime) -> Result<(), Fail> {
     for (modulus, a, inverse) in INVERSES {
-        assert_eq!(rt; field(modulus)?.inverse(a), Some(inverse));
+        assert_eq!(rt; field::<Residue>(modulus)?.inverse(a), Some(inverse));
     }
     Ok(())
 }
@@ -112,7 +106,7 @@ fn inverts(rt: HostRuntime) -> Result<(), Fail> {
 #[test]
 fn inverts_every_small_residue(rt: HostRuntime) -> Result<(), Fail> {
     for modulus in SMALL_MODULI {
-        let field = field(modulus)?;
+        let field = field::<Residue>(modulus)?;
         for a in 1..modulus {
             let inverse = field.inverse(a).ok_or("no inverse")?;
             assert!(rt; inverse < modulus);
@@ -125,7 +119,7 @@ fn inverts_every_small_residue(rt: HostRuntime) -> Result<(), Fail> {
 #[test]
 fn zero_has_no_inverse(rt: HostRuntime) -> Result<(), Fail> {
     for (modulus, a) in ZEROS {
-        assert_eq!(rt; field(modulus)?.inverse(a), None);
+        assert_eq!(rt; field::<Residue>(modulus)?.inverse(a), None);
     }
     Ok(())
 }

@@ -1,5 +1,5 @@
 // Weights that are refused, with the place of the first above 255.
-use faults::Fault;
+use faults::Refusal;
 use monomials::Weights;
 use std::test::Fail;
 
@@ -23,8 +23,9 @@ fn above(rt: HostRuntime) -> Result<(), Fail> {
         match Weights::new(weights) {
             Ok(_) => return Err(Fail::new("a weight above 255 is admitted")),
             Err(fault) => {
-                assert_eq!(rt; fault.refusal().ground, 5);
-                assert_eq!(rt; fault.refusal().place, place);
+                let refusal = Refusal::from(fault);
+                assert_eq!(rt; refusal.ground, 5);
+                assert_eq!(rt; refusal.place, place);
             }
         }
     }

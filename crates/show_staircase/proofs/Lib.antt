@@ -2,3 +2,4 @@ mod Counts
 mod Cuts
 mod Drawn
 mod Lines
+mod Misread

@@ -1,5 +1,5 @@
 -- The lines of a text as a slice of them.
-use Rattle.std.proofs.Common.{◌≡◌, ℕ, ◌+◌, ◌-◌, ◌<◌, ◌≤◌, List, [], ◌∷◌, ◌++◌, length, get_or, take, drop, map, Ok, Err, Result, MatchResult, Bor, sym, ap, ◌∙◌, arith}
+use Rattle.std.proofs.Common.{◌≡◌, ℕ, ◌+◌, ◌-◌, ◌<◌, ◌≤◌, List, [], ◌∷◌, ◌++◌, length, get_or, take, drop, map, Bor, sym, ap, ◌∙◌, arith}
 use mathlib.Core.Path.{subst⁻¹}
 use Rattle.show_staircase.specs.declared.marks.Listed.{Listed}
 use Rattle.show_staircase.specs.Readings.{Lists, ListsEach}
@@ -25,12 +25,6 @@ pub texts_first : (lines : List (Bor (List ℕ))) (d : Bor (List ℕ)) → 0 < l
     texts lines ≡ (get_or lines 0 d).now ∷ texts (take (length lines - 1) (drop 1 lines))
 texts_first [] d h = absurd (omega arith)
 texts_first (x ∷ xs) d h = ap (λ ys. x.now ∷ texts ys) (sym (take_all (length (x ∷ xs) - 1) xs (omega arith)))
-
--- what is known of a value that stayed when its error was changed
-pub ok_stays : {T E : Type 0} (D : Type 0) (P : T → Type 0) (Q N : E → Type 0) (r : Result T E) (x : T) →
-    MatchResult r P Q → MatchResult r (λ y. ◌≡◌ {A = Result T D} (Ok x) (Ok y)) N → ((e : E) → N e → ⊥) → P x
-ok_stays D P Q N (Ok y) x p same never = subst⁻¹ P (cc) p
-ok_stays D P Q N (Err e) x q changed never = absurd (never e changed)
 
 -- the monomial of one line more
 pub each_next : (lines : List (Bor (List ℕ))) (i : ℕ) (d : Bor (List ℕ)) (ls after : List Listed) (l : Listed) →

@@ -1,7 +1,9 @@
 // Why a text cannot be drawn, and at which line.
 ghost use Rattle.std.specs.Prelude.{◌≡◌, Some};
-ghost use Rattle.show_staircase.specs.Misreadings.{ground_text, misread_text};
+ghost use Rattle.show_staircase.specs.Misreadings.{ground_text, misread_text, read_error_text};
+ghost use Rattle.show_staircase.specs.declared.grounds.ReadError.TheVariants.{OutOfMemory, Misread as Misreading};
 
+use std::alloc::{AllocError, AllocFailed};
 use std::error::Error;
 use std::fmt;
 
@@ -66,3 +68,47 @@ impl fmt::Display for Misread {
 }
 
 impl Error for Misread {}
+
+// Why nothing is read: no memory is left, or the text is no listing.
+#[derive(Clone, Copy, Debug)]
+pub enum ReadError {
+    OutOfMemory,
+    Misread(Misread),
+}
+
+impl fmt::Display for ReadError {
+    ghost output = { λ e. Some (read_error_text e) };
+
+    fn fmt<W: fmt::Write>(&self, f: &mut fmt::Formatter<W>) -> fmt::Result {
+        match self {
+            ReadError::OutOfMemory => write!(f, "memory allocation failed"),
+            ReadError::Misread(misread) => write!(f, "{misread}"),
+        }
+    }
+}
+
+impl Error for ReadError {}
+
+impl From<Misread> for ReadError {
+    ghost from_gives = { λ misread e. e ≡ Misreading misread };
+
+    fn from(misread: Misread) -> ReadError {
+        ReadError::Misread(misread)
+    }
+}
+
+impl From<AllocError> for ReadError {
+    ghost from_gives = { λ _ e. e ≡ OutOfMemory };
+
+    fn from(_error: AllocError) -> ReadError {
+        ReadError::OutOfMemory
+    }
+}
+
+impl<T: Drop> From<AllocFailed<T>> for ReadError {
+    ghost from_gives = { λ _ e. e ≡ OutOfMemory };
+
+    fn from(_error: AllocFailed<T>) -> ReadError {
+        ReadError::OutOfMemory
+    }
+}

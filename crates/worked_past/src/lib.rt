@@ -3,7 +3,7 @@
 
 ghost use Rattle.worked_past.specs.WorkedPast.{WorkedPast};
 
-use fields::Residue;
+use fields::{ListedField, Residue};
 use monomials::{Lexicographic, Monomial};
 use polynomials::Term;
 use rows::Line;

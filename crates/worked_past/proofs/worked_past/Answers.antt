@@ -12,7 +12,7 @@ pub returns : goal.returns
 returns c =
     let array = c.unit-array.result in
     let field = c.in-Ok.field in
-    worked_by array.periods.now array.cells.now field.modulus c.unit-array.ensures.0 c.unit-array.ensures.1 c.in-Ok.ensures.0
+    worked_by array.periods.now array.cells.now field.modulus c.unit-array.ensures.0 c.unit-array.ensures.1 c.in-Ok.ensures.modulus.0
     (record { subject = array_laws array.periods.now array.cells.now array.few array.some array.narrow; field = field_laws field.modulus field.listed; order = lexicographic_laws })
     (replicate 3 c.unused-lines.result) refl
     (record {
