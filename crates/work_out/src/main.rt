@@ -3,8 +3,8 @@
 
 ghost use Rattle.std.specs.Prelude.{◌≡◌, [], ◌∷◌};
 
-use faults::{Fault, WorksheetFault};
-use fields::Residue;
+use faults::{Refusal, WorksheetFault};
+use fields::{ListedField, Residue};
 use monomials::{Graded, Monomial};
 use polynomials::Term;
 use rows::{Line, Verdict};
@@ -34,7 +34,7 @@ fn term(exponent: u16, code: u16) -> Term
 }
 
 fn show_refusal(rt: &HostRuntime, call: &str, fault: WorksheetFault) -> io::Result<()> {
-    let refusal = fault.refusal();
+    let refusal = Refusal::from(fault);
     println!(rt; "{call}: {refusal}")
 }
 
@@ -193,10 +193,9 @@ fn show_full(rt: &HostRuntime, array: &PeriodicArray, field: &Residue) -> io::Re
 }
 
 fn show_pattern(rt: &HostRuntime, field: &Residue, other: &Residue) -> io::Result<()> {
-    let mut array = PeriodicArray::unit();
-    if array.set(field, &[10], &CELLS).is_err() {
+    let Ok(array) = PeriodicArray::new(field, &[10], &CELLS) else {
         return println!(rt; "the pattern is refused");
-    }
+    };
     println!(rt; "modulus 11, period 10, cells 3 5 9 6 0 10 8 4 7 2, graded")?;
     let mut lines = [Line::unused(); 4];
     let mut sheet = Worksheet::open(&array, field, &mut lines);
