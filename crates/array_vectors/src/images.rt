@@ -1,6 +1,5 @@
 // Images of monomials, and codes of the infinite array.
-use crate::kinds::listed;
-use fields::{Field, Residue};
+use fields::{Field, ListedField, Residue};
 use monomials::Monomial;
 use std::test::Fail;
 use subjects::{PeriodicArray, Subject};
@@ -33,7 +32,7 @@ const IMAGES: [([u16; 4], usize, u16); 15] = [
 
 #[test]
 fn four_axes(rt: HostRuntime) -> Result<(), Fail> {
-    let field: Residue = listed(11)?;
+    let field = Residue::new(11)?;
     let array = PeriodicArray::new(&field, &FOUR_AXES, &FOUR_AXES_CELLS)?;
     assert!(rt; array.variables() == 4);
     assert!(rt; array.width() == 24);
@@ -49,7 +48,7 @@ fn four_axes(rt: HostRuntime) -> Result<(), Fail> {
 // The infinite array goes on past the period, and absent axes have period 1.
 #[test]
 fn past_the_period(rt: HostRuntime) -> Result<(), Fail> {
-    let field: Residue = listed(11)?;
+    let field = Residue::new(11)?;
     let cells = [3, 5, 9, 6, 0, 10, 8, 4, 7, 2];
     let array = PeriodicArray::new(&field, &[10], &cells)?;
     let expected = [
@@ -68,8 +67,8 @@ fn past_the_period(rt: HostRuntime) -> Result<(), Fail> {
 // Under a later field of smaller order the cells count as their remainders.
 #[test]
 fn smaller_field(rt: HostRuntime) -> Result<(), Fail> {
-    let eleven: Residue = listed(11)?;
-    let seven: Residue = listed(7)?;
+    let eleven = Residue::new(11)?;
+    let seven = Residue::new(7)?;
     let cells = [3, 5, 9, 6, 0, 10, 8, 4, 7, 2];
     let remainders = [3, 5, 2, 6, 0, 3, 1, 4, 0, 2];
     let array = PeriodicArray::new(&eleven, &[10], &cells)?;
@@ -83,7 +82,7 @@ fn smaller_field(rt: HostRuntime) -> Result<(), Fail> {
 // The unit array has one cell, with code 1.
 #[test]
 fn unit(rt: HostRuntime) -> Result<(), Fail> {
-    let field: Residue = listed(2)?;
+    let field = Residue::new(2)?;
     let array = PeriodicArray::unit();
     assert!(rt; array.variables() == 1);
     assert!(rt; array.width() == 1);

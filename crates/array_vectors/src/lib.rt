@@ -6,6 +6,4 @@ mod checks;
 #[cfg(test)]
 mod images;
 #[cfg(test)]
-mod kinds;
-#[cfg(test)]
 mod refusals;

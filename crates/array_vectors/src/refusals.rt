@@ -1,5 +1,4 @@
 // Refusals of arrays and of terms, on both sides of each limit, modulo 11.
-use crate::kinds::listed;
 use faults::{Layer, Refusal};
 use fields::{ListedField, Residue};
 use monomials::Monomial;
@@ -179,7 +178,7 @@ fn term_exponents(rt: HostRuntime) {
 // A refusal leaves the array as it was.
 #[test]
 fn unchanged(rt: HostRuntime) -> Result<(), Fail> {
-    let field: Residue = listed(11)?;
+    let field = Residue::new(11)?;
     let mut array = PeriodicArray::unit();
     let made = array.set(&field, &[2], &[4, 7]).is_ok();
     let short = array.set(&field, &[3], &[4, 7]).is_err();
@@ -195,7 +194,7 @@ fn unchanged(rt: HostRuntime) -> Result<(), Fail> {
 // An array is made of cells that are admitted, and of no others.
 #[test]
 fn made(rt: HostRuntime) -> Result<(), Fail> {
-    let field: Residue = listed(11)?;
+    let field = Residue::new(11)?;
     let array = PeriodicArray::new(&field, &[2], &[4, 7])?;
     let second = Monomial {
         exponents: [1, 0, 0, 0],

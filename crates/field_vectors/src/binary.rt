@@ -1,6 +1,5 @@
 // Examples of the binary fields.
-use crate::kinds::field;
-use faults::Refusal;
+use crate::both::{has_no_inverse, inverts, operates, refuses};
 use fields::{Binary, Field, ListedField};
 use std::test::Fail;
 
@@ -147,25 +146,19 @@ const ZEROS: [(u16, u16); 9] = [
 fn takes_the_listed_degrees(rt: HostRuntime) -> Result<(), Fail> {
     assert_eq!(rt; <Binary as Field>::LARGEST, 256);
     for (degree, order) in TAKEN {
-        assert_eq!(rt; field::<Binary>(degree)?.order(), order);
+        assert_eq!(rt; Binary::new(degree)?.order(), order);
     }
     Ok(())
 }
 
 #[test]
 fn refuses_other_degrees(rt: HostRuntime) -> Result<(), Fail> {
-    for degree in REFUSED {
-        match Binary::new(degree) {
-            Ok(_) => return Err(Fail::new("the degree is taken")),
-            Err(fault) => assert_eq!(rt; Refusal::from(fault).ground, 4),
-        }
-    }
-    Ok(())
+    refuses::<Binary, _>(&rt, &REFUSED)
 }
 
 #[test]
 fn multiplies_in_degree_2(rt: HostRuntime) -> Result<(), Fail> {
-    let field = field::<Binary>(2)?;
+    let field = Binary::new(2)?;
     for (a, b, product) in TABLE {
         assert_eq!(rt; field.product(a, b), product);
     }
@@ -175,33 +168,24 @@ fn multiplies_in_degree_2(rt: HostRuntime) -> Result<(), Fail> {
 #[test]
 fn multiplies(rt: HostRuntime) -> Result<(), Fail> {
     for (degree, a, b, product) in PRODUCTS {
-        assert_eq!(rt; field::<Binary>(degree)?.product(a, b), product);
+        assert_eq!(rt; Binary::new(degree)?.product(a, b), product);
     }
     Ok(())
 }
 
 #[test]
 fn counts_numbers_as_remainders(rt: HostRuntime) -> Result<(), Fail> {
-    for (degree, a, b, sum, negative, product) in WRAPPED {
-        let field = field::<Binary>(degree)?;
-        assert_eq!(rt; field.sum(a, b), sum);
-        assert_eq!(rt; field.negative(a), negative);
-        assert_eq!(rt; field.product(a, b), product);
-    }
-    Ok(())
+    operates::<Binary, _>(&rt, &WRAPPED)
 }
 
 #[test]
 fn inverts_small_codes(rt: HostRuntime) -> Result<(), Fail> {
-    for (degree, a, inverse) in SMALL_INVERSES {
-        assert_eq!(rt; field::<Binary>(degree)?.inverse(a), Some(inverse));
-    }
-    Ok(())
+    inverts::<Binary, _>(&rt, &SMALL_INVERSES)
 }
 
 #[test]
 fn inverts_every_code_of_degree_8(rt: HostRuntime) -> Result<(), Fail> {
-    let field = field::<Binary>(8)?;
+    let field = Binary::new(8)?;
     for a in 1..256 {
         let inverse = INVERSES[(a / 8) as usize][(a % 8) as usize];
         assert_eq!(rt; field.inverse(a), Some(inverse));
@@ -212,8 +196,5 @@ fn inverts_every_code_of_degree_8(rt: HostRuntime) -> Result<(), Fail> {
 
 #[test]
 fn zero_has_no_inverse(rt: HostRuntime) -> Result<(), Fail> {
-    for (degree, a) in ZEROS {
-        assert_eq!(rt; field::<Binary>(degree)?.inverse(a), None);
-    }
-    Ok(())
+    has_no_inverse::<Binary, _>(&rt, &ZEROS)
 }

@@ -4,6 +4,6 @@
 #[cfg(test)]
 mod binary;
 #[cfg(test)]
-mod kinds;
+mod both;
 #[cfg(test)]
 mod residue;

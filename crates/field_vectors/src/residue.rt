@@ -1,6 +1,5 @@
 // Examples of the residues.
-use crate::kinds::field;
-use faults::Refusal;
+use crate::both::{self, has_no_inverse, operates, refuses};
 use fields::{Field, ListedField, Residue};
 use std::test::Fail;
 
@@ -66,47 +65,32 @@ const ZEROS: [(u16, u16); 6] = [
 #[test]
 fn takes_the_listed_moduli(rt: HostRuntime) -> Result<(), Fail> {
     assert_eq!(rt; <Residue as Field>::LARGEST, 65521);
-    assert_eq!(rt; field::<Residue>(LARGEST)?.order(), 65521);
+    assert_eq!(rt; Residue::new(LARGEST)?.order(), 65521);
     for modulus in SMALL_MODULI {
-        assert_eq!(rt; field::<Residue>(modulus)?.order(), u32::from(modulus));
+        assert_eq!(rt; Residue::new(modulus)?.order(), u32::from(modulus));
     }
     Ok(())
 }
 
 #[test]
 fn refuses_other_moduli(rt: HostRuntime) -> Result<(), Fail> {
-    for modulus in REFUSED {
-        match Residue::new(modulus) {
-            Ok(_) => return Err(Fail::new("the modulus is taken")),
-            Err(fault) => assert_eq!(rt; Refusal::from(fault).ground, 4),
-        }
-    }
-    Ok(())
+    refuses::<Residue, _>(&rt, &REFUSED)
 }
 
 #[test]
 fn adds_negates_and_multiplies(rt: HostRuntime) -> Result<(), Fail> {
-    for (modulus, a, b, sum, negative, product) in OPERATIONS {
-        let field = field::<Residue>(modulus)?;
-        assert_eq!(rt; field.sum(a, b), sum);
-        assert_eq!(rt; field.negative(a), negative);
-        assert_eq!(rt; field.product(a, b), product);
-    }
-    Ok(())
+    operates::<Residue, _>(&rt, &OPERATIONS)
 }
 
 #[test]
 fn inverts(rt: HostRuntime) -> Result<(), Fail> {
-    for (modulus, a, inverse) in INVERSES {
-        assert_eq!(rt; field::<Residue>(modulus)?.inverse(a), Some(inverse));
-    }
-    Ok(())
+    both::inverts::<Residue, _>(&rt, &INVERSES)
 }
 
 #[test]
 fn inverts_every_small_residue(rt: HostRuntime) -> Result<(), Fail> {
     for modulus in SMALL_MODULI {
-        let field = field::<Residue>(modulus)?;
+        let field = Residue::new(modulus)?;
         for a in 1..modulus {
             let inverse = field.inverse(a).ok_or("no inverse")?;
             assert!(rt; inverse < modulus);
@@ -118,8 +102,5 @@ fn inverts_every_small_residue(rt: HostRuntime) -> Result<(), Fail> {
 
 #[test]
 fn zero_has_no_inverse(rt: HostRuntime) -> Result<(), Fail> {
-    for (modulus, a) in ZEROS {
-        assert_eq!(rt; field::<Residue>(modulus)?.inverse(a), None);
-    }
-    Ok(())
+    has_no_inverse::<Residue, _>(&rt, &ZEROS)
 }

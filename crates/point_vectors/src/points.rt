@@ -1,6 +1,5 @@
 // Examples of values at points.
-use crate::kinds::listed;
-use fields::{Binary, Residue};
+use fields::{Binary, ListedField, Residue};
 use polynomials::Term;
 use std::test::Fail;
 use subjects::{Finding, PointSet, Subject, check};
@@ -17,7 +16,7 @@ const SMALL_CODES: [u16; 64] = [
 
 #[test]
 fn corners_by_modulus_5(rt: HostRuntime) -> Result<(), Fail> {
-    let field: Residue = listed(5)?;
+    let field = Residue::new(5)?;
     let mut set = PointSet::unit();
     set.set(&field, 2, 3, &CORNERS)?;
     let v_squared = [Term::new([0, 2, 0, 0], 1), Term::new([0, 1, 0, 0], 4)];
@@ -38,7 +37,7 @@ fn corners_by_modulus_5(rt: HostRuntime) -> Result<(), Fail> {
 // At 0, the power of exponent 0 is 1, and that of exponent 5 is 0.
 #[test]
 fn powers_of_zero(rt: HostRuntime) -> Result<(), Fail> {
-    let field: Residue = listed(5)?;
+    let field = Residue::new(5)?;
     let mut set = PointSet::unit();
     set.set(&field, 1, 1, &[0])?;
     assert_eq!(rt; set.value_at(&field, &[Term::new([0, 0, 0, 0], 1)], 0), 1);
@@ -52,7 +51,7 @@ fn powers_of_zero(rt: HostRuntime) -> Result<(), Fail> {
 // By Fermat the power at 65,535 is that at 255 for modulus 257, and that at 15 for modulus 65521.
 #[test]
 fn powers_at_the_largest_exponent(rt: HostRuntime) -> Result<(), Fail> {
-    let field: Residue = listed(257)?;
+    let field = Residue::new(257)?;
     let mut set = PointSet::unit();
     set.set(&field, 2, 3, &[3, 5, 256, 0, 0, 2])?;
     let largest = [Term::new([65535, 65535, 0, 0], 1)];
@@ -64,7 +63,7 @@ fn powers_at_the_largest_exponent(rt: HostRuntime) -> Result<(), Fail> {
     ];
     assert_eq!(rt; set.value_at(&field, &two, 0), 45);
     assert_eq!(rt; set.value_at(&field, &two, 2), 100);
-    let field: Residue = listed(65521)?;
+    let field = Residue::new(65521)?;
     set.set(&field, 4, 2, &[3, 17, 65520, 2, 0, 1, 2, 3])?;
     let three = [
         Term::new([65535, 1, 3, 4], 5),
@@ -78,7 +77,7 @@ fn powers_at_the_largest_exponent(rt: HostRuntime) -> Result<(), Fail> {
 
 #[test]
 fn points_of_degree_8(rt: HostRuntime) -> Result<(), Fail> {
-    let field: Binary = listed(8)?;
+    let field = Binary::new(8)?;
     let mut set = PointSet::unit();
     set.set(&field, 2, 3, &[0x57, 0x83, 0x53, 0xCA, 0x01, 0xFF])?;
     let product = [Term::new([1, 1, 0, 0], 1)];
@@ -99,7 +98,7 @@ fn points_of_degree_8(rt: HostRuntime) -> Result<(), Fail> {
 // The product of u + c for the codes c from 0 to 63, whose exponents are powers of two.
 #[test]
 fn sixty_four_points_of_degree_8(rt: HostRuntime) -> Result<(), Fail> {
-    let field: Binary = listed(8)?;
+    let field = Binary::new(8)?;
     let mut set = PointSet::unit();
     set.set(&field, 1, 64, &SMALL_CODES)?;
     let vanishing = [
@@ -120,7 +119,7 @@ fn sixty_four_points_of_degree_8(rt: HostRuntime) -> Result<(), Fail> {
 // Repeated points are taken. A coordinate that is not below the order of another field counts as its remainder.
 #[test]
 fn repeated_points_and_another_field(rt: HostRuntime) -> Result<(), Fail> {
-    let field: Residue = listed(257)?;
+    let field = Residue::new(257)?;
     let mut set = PointSet::unit();
     set.set(&field, 2, 2, &[7, 9, 7, 9])?;
     assert_eq!(rt; set.variables(), 2);
@@ -128,6 +127,6 @@ fn repeated_points_and_another_field(rt: HostRuntime) -> Result<(), Fail> {
     let product = [Term::new([1, 1, 0, 0], 1)];
     assert_eq!(rt; set.value_at(&field, &product, 0), 63);
     assert_eq!(rt; set.value_at(&field, &product, 1), 63);
-    assert_eq!(rt; set.value_at(&listed::<Residue>(5)?, &product, 1), 3);
+    assert_eq!(rt; set.value_at(&Residue::new(5)?, &product, 1), 3);
     Ok(())
 }

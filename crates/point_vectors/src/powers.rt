@@ -1,6 +1,5 @@
 // Examples of powers.
-use crate::kinds::listed;
-use fields::{Binary, Residue, power};
+use fields::{Binary, ListedField, Residue, power};
 use std::test::Fail;
 
 // modulus, base, exponent, power. The powers at 65,535 are by Fermat: a^(p − 1) is 1 unless p divides a.
@@ -50,7 +49,7 @@ const DEGREE_8_POWERS: [(u16, u16, u16); 11] = [
 #[test]
 fn powers_of_residues(rt: HostRuntime) -> Result<(), Fail> {
     for (modulus, base, exponent, expected) in RESIDUE_POWERS {
-        let field: Residue = listed(modulus)?;
+        let field = Residue::new(modulus)?;
         assert_eq!(rt; power(&field, base, exponent), expected);
     }
     Ok(())
@@ -58,7 +57,7 @@ fn powers_of_residues(rt: HostRuntime) -> Result<(), Fail> {
 
 #[test]
 fn powers_of_binary_codes(rt: HostRuntime) -> Result<(), Fail> {
-    let field: Binary = listed(8)?;
+    let field = Binary::new(8)?;
     for (base, exponent, expected) in DEGREE_8_POWERS {
         assert_eq!(rt; power(&field, base, exponent), expected);
     }

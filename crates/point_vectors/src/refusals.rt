@@ -1,7 +1,6 @@
 // What a point set refuses, and what it takes beside it.
-use crate::kinds::listed;
 use faults::{Refusal, SubjectFault};
-use fields::{Binary, Field, Residue};
+use fields::{Binary, Field, ListedField, Residue};
 use polynomials::Term;
 use std::test::Fail;
 use subjects::{PointSet, Subject};
@@ -51,7 +50,7 @@ fn lent<F: Field>(field: &F, coordinates: &[u16]) -> (u8, usize) {
 
 #[test]
 fn sizes(rt: HostRuntime) -> Result<(), Fail> {
-    let field: Residue = listed(5)?;
+    let field = Residue::new(5)?;
     for (variables, points, count, ground) in SIZES {
         assert!(rt; count <= 260);
         let mut set = PointSet::unit();
@@ -63,17 +62,17 @@ fn sizes(rt: HostRuntime) -> Result<(), Fail> {
 
 #[test]
 fn codes(rt: HostRuntime) -> Result<(), Fail> {
-    let field: Residue = listed(5)?;
+    let field = Residue::new(5)?;
     assert_eq!(rt; lent(&field, &[4, 4, 4, 4]), (0, 0));
     assert_eq!(rt; lent(&field, &[5, 4, 4, 4]), (10, 0));
     assert_eq!(rt; lent(&field, &[0, 4, 5, 9]), (10, 2));
     assert_eq!(rt; lent(&field, &[4, 4, 4, 5]), (10, 3));
     assert_eq!(rt; lent(&field, &[4, 4, 5]), (9, 0));
     assert_eq!(rt; lent(&field, &[5, 4, 4, 4, 4]), (9, 0));
-    let field: Residue = listed(65521)?;
+    let field = Residue::new(65521)?;
     assert_eq!(rt; lent(&field, &[65520, 65520, 65520, 65520]), (0, 0));
     assert_eq!(rt; lent(&field, &[65520, 65521, 65520, 65520]), (10, 1));
-    let field: Binary = listed(2)?;
+    let field = Binary::new(2)?;
     assert_eq!(rt; lent(&field, &[3, 3, 3, 3]), (0, 0));
     assert_eq!(rt; lent(&field, &[3, 3, 3, 4]), (10, 3));
     Ok(())
@@ -82,7 +81,7 @@ fn codes(rt: HostRuntime) -> Result<(), Fail> {
 // A set that refuses new points keeps those that it has.
 #[test]
 fn refused_points_change_nothing(rt: HostRuntime) -> Result<(), Fail> {
-    let field: Residue = listed(5)?;
+    let field = Residue::new(5)?;
     let mut set = PointSet::unit();
     assert_eq!(rt; refusal(set.set(&field, 2, 2, &[0, 1, 2, 3])), (0, 0));
     assert_eq!(rt; refusal(set.set(&field, 1, 3, &[1, 1, 5])), (10, 2));
@@ -95,7 +94,7 @@ fn refused_points_change_nothing(rt: HostRuntime) -> Result<(), Fail> {
 // A set is made of points that are admitted, and of no others.
 #[test]
 fn made(rt: HostRuntime) -> Result<(), Fail> {
-    let field: Residue = listed(5)?;
+    let field = Residue::new(5)?;
     let set = PointSet::new(&field, 2, 2, &[0, 1, 2, 3])?;
     assert_eq!(rt; set.value_at(&field, &[Term::new([1, 1, 0, 0], 1)], 1), 1);
     match PointSet::new(&field, 1, 3, &[1, 1, 5]) {

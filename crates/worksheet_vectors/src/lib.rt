@@ -2,8 +2,6 @@
 
 // Worked examples of the worksheet. The expected values were computed by another program, or by hand.
 #[cfg(test)]
-mod kinds;
-#[cfg(test)]
 mod lines;
 #[cfg(test)]
 mod narrow;

@@ -1,5 +1,4 @@
 // The judged lines of small patterns, with combinations, images and pivots.
-use crate::kinds::listed;
 use crate::tables::{
     AXES, CORNERS, CUBE_BINARY, CUBE_LEXICOGRAPHIC, Judged, ONE_CELL, POWERS, SEQUENCE,
     SQUARE_ELEVEN, SQUARE_GRADED, SQUARE_LEXICOGRAPHIC, STRIP_WEIGHTED, ZEROS,
@@ -103,7 +102,7 @@ fn small(rt: HostRuntime) {
 
 #[test]
 fn binary(rt: HostRuntime) -> Result<(), Fail> {
-    let field: Binary = listed(2)?;
+    let field = Binary::new(2)?;
     let array = PeriodicArray::new(&field, &[3], &[1, 2, 3])?;
     assert!(rt; works_out(&array, &field, &Graded, &POWERS));
     Ok(())
@@ -118,7 +117,7 @@ const STRIP: [u16; 16] = [1, 0, 0, 0, 0, 0, 0, 0, 65520, 0, 0, 0, 0, 0, 0, 0];
 
 #[test]
 fn cube(rt: HostRuntime) -> Result<(), Fail> {
-    let binary: Binary = listed(8)?;
+    let binary = Binary::new(8)?;
     let array = PeriodicArray::new(&binary, &[4, 3, 2], &CUBE)?;
     let graded = works_out(&array, &binary, &Graded, &CUBE_BINARY);
     let lexicographic = array_works_out(2, &[4, 3, 2], &CUBE, &Lexicographic, &CUBE_LEXICOGRAPHIC);
@@ -141,7 +140,7 @@ fn strip(rt: HostRuntime) -> Result<(), Fail> {
 
 #[test]
 fn points(rt: HostRuntime) -> Result<(), Fail> {
-    let field: Residue = listed(5)?;
+    let field = Residue::new(5)?;
     let corners = PointSet::new(&field, 2, 3, &[0, 0, 1, 0, 0, 1])?;
     assert!(rt; works_out(&corners, &field, &Graded, &CORNERS));
     Ok(())

@@ -1,8 +1,7 @@
 // A subject of width 0: every polynomial annihilates it, so 1 is a relation and there is no stair.
 ghost use Rattle.worksheet_vectors.specs.Narrow.{no_positions, no_positions_laws};
 
-use crate::kinds::listed;
-use fields::{Field, Residue};
+use fields::{Field, ListedField, Residue};
 use monomials::{Graded, Monomial};
 use rows::Line;
 use std::test::Fail;
@@ -31,7 +30,7 @@ impl Subject for NoPositions {
 
 #[test]
 fn no_stair(rt: HostRuntime) -> Result<(), Fail> {
-    let field: Residue = listed(5)?;
+    let field = Residue::new(5)?;
     let mut lines = [Line::unused(); 2];
     let mut sheet = Worksheet::open(&NoPositions, &field, &mut lines);
     let run = sheet.run(&NoPositions, &field, &Graded).is_ok();

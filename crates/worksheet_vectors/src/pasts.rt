@@ -1,6 +1,5 @@
 // Sheets with wrong calls between the right ones, and sheets of 0, 1 and exactly enough lines.
-use crate::kinds::listed;
-use fields::Residue;
+use fields::{ListedField, Residue};
 use monomials::{Graded, Monomial};
 use polynomials::Term;
 use rows::Line;
@@ -14,8 +13,8 @@ const CELLS: [u16; 10] = [3, 5, 9, 6, 0, 10, 8, 4, 7, 2];
 // Wrong calls change nothing: the sheet ends as it would have without them.
 #[test]
 fn wrong_calls_between(rt: HostRuntime) -> Result<(), Fail> {
-    let field: Residue = listed(11)?;
-    let other: Residue = listed(7)?;
+    let field = Residue::new(11)?;
+    let other = Residue::new(7)?;
     let array = PeriodicArray::new(&field, &[10], &CELLS)?;
     let mut lines = [Line::unused(); 3];
     let mut sheet = Worksheet::open(&array, &field, &mut lines);
@@ -39,7 +38,7 @@ fn wrong_calls_between(rt: HostRuntime) -> Result<(), Fail> {
 // u² leaves 3u + 9, and the codes 0 and 1 are refilled to 3 at u².
 #[test]
 fn remainder_and_refill(rt: HostRuntime) -> Result<(), Fail> {
-    let field: Residue = listed(11)?;
+    let field = Residue::new(11)?;
     let array = PeriodicArray::new(&field, &[10], &CELLS)?;
     let mut lines = [Line::unused(); 3];
     let mut sheet = Worksheet::open(&array, &field, &mut lines);
@@ -65,7 +64,7 @@ fn remainder_and_refill(rt: HostRuntime) -> Result<(), Fail> {
 
 // How many lines a run over so many lent lines judges, and whether it finished.
 fn run_over(rt: &impl Abort, lines: &mut [Line]) -> Result<(usize, bool), Fail> {
-    let field: Residue = listed(11)?;
+    let field = Residue::new(11)?;
     let array = PeriodicArray::new(&field, &[10], &CELLS)?;
     let mut sheet = Worksheet::open(&array, &field, lines);
     match sheet.run(&array, &field, &Graded) {
