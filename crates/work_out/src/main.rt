@@ -10,7 +10,7 @@ use polynomials::Term;
 use rows::{Line, Verdict};
 use std::io;
 use subjects::PeriodicArray;
-use worksheet::{Ending, Worksheet};
+use worksheet::{Ending, Ran, Summary, Worksheet};
 
 const CELLS: [u16; 10] = [3, 5, 9, 6, 0, 10, 8, 4, 7, 2];
 
@@ -52,8 +52,7 @@ fn show_line(rt: &HostRuntime, line: &Line) -> io::Result<()> {
     match line.verdict {
         Verdict::Stair => println!(rt; "stair {exponent}"),
         Verdict::Relation => {
-            let first = line.combination[0];
-            let second = line.combination[1];
+            let [first, second, ..] = line.combination;
             println!(rt; "rel {exponent} : {first} {second}")
         }
     }
@@ -73,15 +72,13 @@ fn show_lines(rt: &HostRuntime, sheet: &Worksheet) -> io::Result<()> {
 
 // How far the sheet has come.
 fn show_summary(rt: &HostRuntime, sheet: &Worksheet) -> io::Result<()> {
-    let summary = sheet.summary();
-    let judged = summary.judged;
-    let stairs = summary.stairs;
-    let relations = summary.relations;
-    let state = if summary.finished {
-        "finished"
-    } else {
-        "unfinished"
-    };
+    let Summary {
+        judged,
+        stairs,
+        relations,
+        finished,
+    } = sheet.summary();
+    let state = if finished { "finished" } else { "unfinished" };
     println!(rt; "judged {judged}: stairs {stairs}, relations {relations}, {state}")
 }
 
@@ -107,8 +104,7 @@ fn show_remainders(
     let mut codes = [0; 2];
     match sheet.remainder(array, field, &[term(2, 1)], &mut codes) {
         Ok(()) => {
-            let first = codes[0];
-            let second = codes[1];
+            let [first, second] = codes;
             println!(rt; "remainder of u^2: {first} {second}")?;
         }
         Err(fault) => show_refusal(rt, "remainder", fault)?,
@@ -168,9 +164,8 @@ fn work_out(
         show_summary(rt, sheet)?;
     }
     match sheet.run(array, field, &Graded) {
-        Ok(ran) => {
-            let judged = ran.judged;
-            let ending = match ran.ending {
+        Ok(Ran { judged, ending }) => {
+            let ending = match ending {
                 Ending::Finished => "finished",
                 Ending::Full => "full",
             };
