@@ -9,7 +9,8 @@ use rows::{Line, Verdict};
 // How many stairs have a place in a combination.
 const PLACES: usize = 64;
 
-// The factor by which the line is added to clear an image at the line's pivot; 0 where the line has nothing to clear by.
+// The factor by which the line is added to clear an image at the line's pivot; where the line has nothing to clear by it is 0,
+// a factor that adds nothing, and no absence.
 fn pivot_factor<F: Field>(field: &F, line: &Line, image: &[u16; 64]) -> u16
     ensures clears { ClearsAt (F.Field.arithmetic field.now) line.now image.now result }
     ensures nothing { NothingAt (F.Field.arithmetic field.now) line.now → result ≡ 0 }
@@ -22,6 +23,7 @@ fn pivot_factor<F: Field>(field: &F, line: &Line, image: &[u16; 64]) -> u16
 }
 
 // Clears the image at the line's pivot, and does the same to the combination, with the factor at the line's own place.
+// Six parameters: they travel together in this one call only.
 fn eliminate<F: Field>(
     field: &F,
     line: &Line,

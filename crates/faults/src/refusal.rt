@@ -15,6 +15,7 @@ pub enum Layer {
 }
 
 // The number of the ground, the first place at fault (0 where the ground has no places), and the layer.
+// The ground is a number, as it is printed; the faults themselves are enums.
 #[derive(Clone, Copy, PartialEq, Eq, Debug)]
 pub struct Refusal {
     pub ground: u8,

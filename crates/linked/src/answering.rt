@@ -43,6 +43,7 @@ fn places(sheet: &Worksheet) -> usize
 }
 
 // Writes the remainder of a polynomial from a place on, one code for each stair.
+// Seven parameters: they travel together in this one call only.
 fn write_remainder<S: Subject, F: Field>(
     sheet: &Worksheet,
     subject: &S,
@@ -93,6 +94,7 @@ impl Question for Refills<'_> {
         if count > out.len() {
             return None;
         }
+        // by number, which names the monomial that is asked and the code that is written
         for number in 0..count {
             let monomial = monomial_at(self.exponents, 4 * number);
             match sheet.refill(field, self.codes, &monomial) {

@@ -1,4 +1,4 @@
-// A pattern as numbers name it.
+// A pattern as numbers name it, since C passes numbers.
 
 // The kind of its field with the modulus or the degree, the number of its order, its periods and its cells.
 #[derive(Clone, Copy)]

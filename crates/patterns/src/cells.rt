@@ -50,7 +50,7 @@ fn comes_before(entries: &[Entry], coordinates: &Monomial, place: usize) -> bool
         .any(|before| is_at(before, coordinates))
 }
 
-// The code that an entry gives its cell.
+// The code that an entry gives its cell; asked of cells alone, and 0 of others.
 fn code(entry: &Entry) -> u16
     ensures { result ≡ code_of entry.now }
 {
@@ -98,7 +98,7 @@ impl Filling<'_> {
         ensures { MatchOption result (CellMissing self.now.periods.now self.now.entries.now) (Gathered self.now.periods.now self.now.entries.now self.now.width) }
     {
         let mut cells = [0; 64];
-        // by index: of elements that an iterator writes a proof knows nothing
+        // by index, up to the width: after a loop over `iter_mut` with `take` no code that was written is known (`returns`)
         for position in 0..self.width {
             let place = self.record_of_cell(position)?;
             cells[position] = code(&self.entries[place]);

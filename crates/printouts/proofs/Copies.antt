@@ -1,17 +1,9 @@
 -- Lists of lines that agree place by place.
-use Rattle.std.proofs.Common.{◌≡◌, ℕ, ◌<◌, ◌≤◌, List, length, take, sym, ◌∙◌, subst, arith}
-use Rattle.std.proofs.lemmas.List.{length-take-le, get_or-take, get_or_default, same_lists}
+use Rattle.std.proofs.Common.{◌≡◌, ℕ, ◌<◌, List, length, sym, ◌∙◌, arith}
+use Rattle.std.proofs.lemmas.List.{get_or_default, same_lists}
 use Rattle.rows.specs.declared.line.Line.{Line}
 use Rattle.rows.specs.Lines.{blank, line}
 
--- the first so many are all of the other list
-pub copied : (copies lines : List Line) (n : ℕ) → n ≤ length copies → length lines ≡ n → ((j : ℕ) → j < n → line copies j ≡ line lines j) → take n copies ≡ lines
-copied copies lines n room long agree =
-    let short : length (take n copies) ≡ n = length-take-le n copies room in
-    same_lists (take n copies) lines (short ∙ sym long)
-    (λ k d h.
-    let l : k < n = subst (λ m. k < m) short h in
-    get_or-take n copies k d l ∙ get_or_default copies k d blank (below k l) ∙ agree k l ∙ get_or_default lines k blank d (subst (λ m. k < m) (sym long) l))
-  where
-    below : (k : ℕ) → k < n → k < length copies
-    below k l = omega (arith, l, room)
+-- lists of one length that agree are the same
+pub copied : (copies lines : List Line) → length lines ≡ length copies → ((j : ℕ) → j < length copies → line copies j ≡ line lines j) → copies ≡ lines
+copied copies lines long agree = same_lists copies lines (sym long) (λ k d h. get_or_default copies k d blank h ∙ agree k h ∙ get_or_default lines k blank d (omega (arith, h, long)))

@@ -1,19 +1,17 @@
 // The judged lines of a worksheet, read one after another.
-ghost use Rattle.std.specs.Prelude.{◌≡◌, ◌≤◌, length, take};
+ghost use Rattle.std.specs.Prelude.{◌≡◌, length};
 ghost use Rattle.worksheet.specs.Sheets.{judged};
 ghost use Rattle.worksheet.specs.Views.{sheet};
 
 use rows::Line;
 use worksheet::Worksheet;
 
-// Copies the judged lines, so many, to the first places.
-pub(crate) fn copy_lines(from: &Worksheet, count: usize, copies: &mut [Line])
-    requires { (count ≡ (sheet from.now).used) × (count ≤ length copies.old) }
-    ensures { take count copies.new ≡ judged (sheet from.now) }
+// Copies the judged lines to as many places.
+pub(crate) fn copy_lines(from: &Worksheet, copies: &mut [Line])
+    requires { length copies.old ≡ (sheet from.now).used }
+    ensures { copies.new ≡ judged (sheet from.now) }
 {
-    let mut line = Line::unused();
-    for number in 0..count {
-        let _ = from.read(number, &mut line);
-        copies[number] = line;
+    for (number, copy) in copies.iter_mut().enumerate() {
+        let _ = from.read(number, copy);
     }
 }

@@ -34,9 +34,9 @@ fn finished_text(
 {
     let judged = from.summary().judged;
     let mut copies = [Line::unused(); LENT_LINES];
-    copy_lines(from, judged, &mut copies);
+    copy_lines(from, &mut copies[..judged]);
     match from.score(array) {
-        Ok(score) => listing(heap, judged, array.variables(), &copies[0..judged], score),
+        Ok(score) => listing(heap, judged, array.variables(), &copies[..judged], score),
         Err(fault) => refusal_line(heap, &Refusal::from(fault)),
     }
 }

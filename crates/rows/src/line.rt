@@ -1,5 +1,6 @@
 // A judged monomial with its polynomial: the code 1 at the monomial itself, and code j of the combination
-// at stair j, counted from 0; the image of that polynomial, and the position that the line clears.
+// at stair j, counted from 0; the image of that polynomial, and the position that the line clears, 64 where it clears none.
+// A line is lent, so its form is fixed: arrays of 64 codes, and a number for the pivot beside the verdict.
 ghost use Rattle.std.specs.Prelude.{◌≡◌, replicate};
 ghost use Rattle.monomials.specs.Monomials.{mono, one};
 ghost use Rattle.rows.specs.declared.verdict.Verdict.TheVariants.{Relation};

@@ -10,6 +10,7 @@ use fields::Field;
 use polynomials::{Term, first_code_outside, first_exponent_outside};
 use std::fmt;
 
+// What a check finds; an enum of its own and no Option, since it is printed.
 #[derive(Clone, Copy, PartialEq, Eq, Debug)]
 pub enum Finding {
     // the polynomial's image is zero at every position

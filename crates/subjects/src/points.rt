@@ -135,6 +135,7 @@ impl<'a> Subject for PointSet<'a> {
     // A coordinate not below the field's order counts as its remainder.
     fn image<F: Field>(&self, field: &F, monomial: &Monomial, position: usize) -> u16 {
         if position >= self.points {
+            // the code past the points, as the trait has it
             return 0;
         }
         monomial_value(field, self.point(position), monomial)

@@ -16,7 +16,7 @@ pub struct Ran {
     pub ending: Ending,
 }
 
-// Of the whole sheet: how many lines are judged, how many of them are stairs and relations, and whether nothing waits.
+// Of the whole sheet, where finished is a flag that no value hangs on: how many lines are judged, how many of them are stairs and relations, and whether nothing waits.
 #[derive(Clone, Copy)]
 pub struct Summary {
     pub judged: usize,

@@ -39,6 +39,7 @@ impl<'a> Worksheet<'a> {
     {
         let line = line_of(subject, field, self.judged(), monomial);
         self.lent.write(self.used, line);
+        // how many lines are used, and not an index of a loop
         self.used += 1;
         (line.monomial, line.verdict)
     }
