@@ -1,4 +1,5 @@
-// A record as 12 bytes, with its kind and subkind as the numbers that are read (`Entry` has them as an enum): its kind, its subkind, and five numbers of 16 bits, low byte first.
+// A record as 12 bytes: its kind and its subkind, as the numbers that are read (`Entry` has them as enums), and five numbers of
+// 16 bits, low byte first.
 ghost use Rattle.std.specs.Prelude.{◌≡◌, length, MatchResult, ◌≢◌};
 ghost use Rattle.records.specs.Layout.{record_of};
 
