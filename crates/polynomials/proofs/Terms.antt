@@ -12,20 +12,36 @@ use Rattle.polynomials.specs.declared.term.Term.{Term}
 use Rattle.polynomials.specs.Polynomials.{applied}
 use Rattle.polynomials.specs.Terms.{monomial_of, poly, Admitted}
 
+-- the exponent in a place is small, and zero beyond m
+pub record Fine (m : ℕ) (es : List ℕ) (v : ℕ) : Type 0 where
+  pub small : get_or es v 0 ≤ 4095
+  pub zero_beyond : m ≤ v → get_or es v 0 ≡ 0
+
+-- four fine exponents make an admitted monomial
+pub admitted : (m : ℕ) (es : List ℕ) → ((v : ℕ) → v < 4 → Fine m es v) → Admitted m (mono es)
+admitted m es h = record {
+  small = λ v. elim (cases_lt v 4) [ inl l ↦ omega (arith, exponent_mono es v l, (h v l).small) | inr g ↦ omega (arith, within_four (mono es) v g) ];
+  variables = λ v b. elim (cases_lt v 4) [ inl l ↦ exponent_mono es v l ∙ (h v l).zero_beyond b | inr g ↦ within_four (mono es) v g ];
+}
+
+-- and the exponents of an admitted monomial are fine
+pub fine : (m : ℕ) (es : List ℕ) → Admitted m (mono es) → (v : ℕ) → v < 4 → Fine m es v
+fine m es a v l = record {
+  small = omega (arith, exponent_mono es v l, a.small v);
+  zero_beyond = λ b. omega (arith, exponent_mono es v l, a.variables v b);
+}
+
 -- where only the first m variables occur, the test of each exponent tells whether the monomial is admitted
 pub admitted_cases : (m : ℕ) (es : List ℕ) → length es ≡ 4 → Within m (mono es) →
     MatchBool (list_all (λ e. nat_le e 4095) es) (Admitted m (mono es)) (Admitted m (mono es) → ⊥)
 admitted_cases m es h w = elim (cases_Bool (list_all (λ e. nat_le e 4095) es)) [
-  | inl t ↦ subst (λ r. MatchBool r (Admitted m (mono es)) (Admitted m (mono es) → ⊥)) (sym t) (record {
-    small = λ v. elim (cases_lt v 4) [
-      | inl l ↦ let s = AllPass-from_list_all (λ e. nat_le e 4095) es t v 0 (omega (arith, h)) in omega (arith, exponent_mono es v l, leb-true _ _ s)
-      | inr g ↦ omega (arith, within_four (mono es) v g)
-    ];
-    variables = w;
-  })
+  | inl t ↦ subst (λ r. MatchBool r (Admitted m (mono es)) (Admitted m (mono es) → ⊥)) (sym t) (admitted m es (λ v l. record {
+    small = leb-true _ _ (AllPass-from_list_all (λ e. nat_le e 4095) es t v 0 (omega (arith, h)));
+    zero_beyond = λ b. sym (exponent_mono es v l) ∙ w v b;
+  }))
   | inr f ↦ subst (λ r. MatchBool r (Admitted m (mono es)) (Admitted m (mono es) → ⊥)) (sym f) (λ a.
       both_ways _ f (list_all-from_AllPass (λ e. nat_le e 4095) es (λ v d l.
-      le-leb _ _ (omega (arith, get_or_default es v d 0 l, exponent_mono es v (omega (arith, h)), a.small v)))))
+      le-leb _ _ (omega (arith, get_or_default es v d 0 l, (fine m es a v (omega (arith, h))).small)))))
 ]
 
 -- the terms from a place on give what the term there gives, and what the terms after it give
