@@ -33,7 +33,8 @@ const IMAGES: [([u16; 4], usize, u16); 15] = [
 #[test]
 fn four_axes(rt: HostRuntime) -> Result<(), Fail> {
     let field = Residue::new(11)?;
-    let array = PeriodicArray::new(&field, &FOUR_AXES, &FOUR_AXES_CELLS)?;
+    let mut array = PeriodicArray::unit();
+    assert!(rt; array.set(&field, &FOUR_AXES, &FOUR_AXES_CELLS).is_ok());
     assert!(rt; array.variables() == 4);
     assert!(rt; array.width() == 24);
     for (exponents, position, code) in IMAGES {
@@ -50,7 +51,8 @@ fn four_axes(rt: HostRuntime) -> Result<(), Fail> {
 fn past_the_period(rt: HostRuntime) -> Result<(), Fail> {
     let field = Residue::new(11)?;
     let cells = [3, 5, 9, 6, 0, 10, 8, 4, 7, 2];
-    let array = PeriodicArray::new(&field, &[10], &cells)?;
+    let mut array = PeriodicArray::unit();
+    assert!(rt; array.set(&field, &[10], &cells).is_ok());
     let expected = [
         ([0, 0, 0, 0], 3),
         ([9, 0, 0, 0], 2),
@@ -71,7 +73,8 @@ fn smaller_field(rt: HostRuntime) -> Result<(), Fail> {
     let seven = Residue::new(7)?;
     let cells = [3, 5, 9, 6, 0, 10, 8, 4, 7, 2];
     let remainders = [3, 5, 2, 6, 0, 3, 1, 4, 0, 2];
-    let array = PeriodicArray::new(&eleven, &[10], &cells)?;
+    let mut array = PeriodicArray::unit();
+    assert!(rt; array.set(&eleven, &[10], &cells).is_ok());
     let one = Monomial { exponents: [0; 4] };
     for (position, code) in remainders.iter().enumerate() {
         assert_eq!(rt; array.image(&seven, &one, position), *code);

@@ -14,13 +14,8 @@ fn degrees(rt: HostRuntime) -> Result<(), Fail> {
     assert_eq!(rt; monomial(1, 2, 3, 4).degree(), 10);
     assert_eq!(rt; monomial(65535, 65535, 65535, 65535).degree(), 262140);
     let largest = monomial(65535, 65535, 65535, 65535);
-    match Weights::new([255, 255, 255, 255]) {
-        Ok(weights) => {
-            assert_eq!(rt; weights.sum(&largest), 66845700);
-            Ok(())
-        },
-        Err(_) => Err(Fail::new("255 is refused")),
-    }
+    assert_eq!(rt; Weights::new([255, 255, 255, 255])?.sum(&largest), 66845700);
+    Ok(())
 }
 
 #[test]

@@ -16,10 +16,8 @@ fn check_pairs<O: MonomialOrder>(rt: &impl Abort, order: &O, pairs: &[Pair]) {
 }
 
 fn weighted<O: Drop>(weights: [u16; 4], below: O) -> Result<Weighted<O>, Fail> {
-    match Weights::new(weights) {
-        Ok(weights) => Ok(Weighted { weights, below }),
-        Err(_) => Err(Fail::new("a weight is above 255")),
-    }
+    let weights = Weights::new(weights)?;
+    Ok(Weighted { weights, below })
 }
 
 #[test]

@@ -33,6 +33,7 @@ fn finished_text(
     ensures { IfOk result (λ text. string_bytes text ≡ listing_text (sheet from.now).used (length array.now.periods.now) (judged (sheet from.now)) (1000 * stairs_in (sheet from.now) / cells_of array.now.periods.now)) }
 {
     let judged = from.summary().judged;
+    // as many places as lines are lent, in fixed memory like them
     let mut copies = [Line::unused(); LENT_LINES];
     copy_lines(from, &mut copies[..judged]);
     match from.score(array) {

@@ -1,7 +1,7 @@
 // What the worksheet answers.
 
 // Why a run ended.
-#[derive(Clone, Copy)]
+#[derive(Clone, Copy, PartialEq, Eq, Debug)]
 pub enum Ending {
     // nothing waits
     Finished,
@@ -10,14 +10,14 @@ pub enum Ending {
 }
 
 // Of a run: how many monomials it judged, and why it ended.
-#[derive(Clone, Copy)]
+#[derive(Clone, Copy, PartialEq, Eq, Debug)]
 pub struct Ran {
     pub judged: usize,
     pub ending: Ending,
 }
 
 // Of the whole sheet, where finished is a flag that no value hangs on: how many lines are judged, how many of them are stairs and relations, and whether nothing waits.
-#[derive(Clone, Copy)]
+#[derive(Clone, Copy, PartialEq, Eq, Debug)]
 pub struct Summary {
     pub judged: usize,
     pub stairs: usize,

@@ -4,6 +4,7 @@ ghost use Rattle.worksheet.specs.Invariants.{Sound};
 
 use crate::lines::Lines;
 
+// The lines are lent whole, so how many of them are used stands beside them.
 #[derive(Drop)]
 pub struct Worksheet<'a> {
     pub(crate) lent: Lines<'a>,

@@ -67,43 +67,44 @@ fn array_works_out<'a, O: MonomialOrder>(
     cells: &'a [u16],
     order: &O,
     expected: &[Judged],
-) -> bool {
-    let Ok(field) = Residue::new(modulus) else {
-        return false;
-    };
-    match PeriodicArray::new(&field, periods, cells) {
-        Ok(array) => works_out(&array, &field, order, expected),
-        Err(_) => false,
-    }
+) -> Result<bool, Fail> {
+    let field = Residue::new(modulus)?;
+    let mut array = PeriodicArray::unit();
+    array.set(&field, periods, cells)?;
+    Ok(works_out(&array, &field, order, expected))
 }
 
 #[test]
-fn sequence(rt: HostRuntime) {
+fn sequence(rt: HostRuntime) -> Result<(), Fail> {
     let cells = [3, 5, 9, 6, 0, 10, 8, 4, 7, 2];
-    assert!(rt; array_works_out(11, &[10], &cells, &Graded, &SEQUENCE));
+    assert!(rt; array_works_out(11, &[10], &cells, &Graded, &SEQUENCE)?);
+    Ok(())
 }
 
 #[test]
-fn square(rt: HostRuntime) {
+fn square(rt: HostRuntime) -> Result<(), Fail> {
     let cells = [1, 0, 0, 1];
-    let graded = array_works_out(2, &[2, 2], &cells, &Graded, &SQUARE_GRADED);
-    let lexicographic = array_works_out(2, &[2, 2], &cells, &Lexicographic, &SQUARE_LEXICOGRAPHIC);
-    let eleven = array_works_out(11, &[2, 2], &[3, 1, 10, 8], &Graded, &SQUARE_ELEVEN);
+    let graded = array_works_out(2, &[2, 2], &cells, &Graded, &SQUARE_GRADED)?;
+    let lexicographic = array_works_out(2, &[2, 2], &cells, &Lexicographic, &SQUARE_LEXICOGRAPHIC)?;
+    let eleven = array_works_out(11, &[2, 2], &[3, 1, 10, 8], &Graded, &SQUARE_ELEVEN)?;
     assert!(rt; graded && lexicographic && eleven);
+    Ok(())
 }
 
 #[test]
-fn small(rt: HostRuntime) {
-    let zeros = array_works_out(5, &[3], &[0, 0, 0], &Graded, &ZEROS);
-    let one_cell = array_works_out(5, &[1], &[4], &Graded, &ONE_CELL);
-    let axes = array_works_out(7, &[2, 3], &[1, 4, 2, 0, 6, 3], &Graded, &AXES);
+fn small(rt: HostRuntime) -> Result<(), Fail> {
+    let zeros = array_works_out(5, &[3], &[0, 0, 0], &Graded, &ZEROS)?;
+    let one_cell = array_works_out(5, &[1], &[4], &Graded, &ONE_CELL)?;
+    let axes = array_works_out(7, &[2, 3], &[1, 4, 2, 0, 6, 3], &Graded, &AXES)?;
     assert!(rt; zeros && one_cell && axes);
+    Ok(())
 }
 
 #[test]
 fn binary(rt: HostRuntime) -> Result<(), Fail> {
     let field = Binary::new(2)?;
-    let array = PeriodicArray::new(&field, &[3], &[1, 2, 3])?;
+    let mut array = PeriodicArray::unit();
+    assert!(rt; array.set(&field, &[3], &[1, 2, 3]).is_ok());
     assert!(rt; works_out(&array, &field, &Graded, &POWERS));
     Ok(())
 }
@@ -118,30 +119,29 @@ const STRIP: [u16; 16] = [1, 0, 0, 0, 0, 0, 0, 0, 65520, 0, 0, 0, 0, 0, 0, 0];
 #[test]
 fn cube(rt: HostRuntime) -> Result<(), Fail> {
     let binary = Binary::new(8)?;
-    let array = PeriodicArray::new(&binary, &[4, 3, 2], &CUBE)?;
+    let mut array = PeriodicArray::unit();
+    assert!(rt; array.set(&binary, &[4, 3, 2], &CUBE).is_ok());
     let graded = works_out(&array, &binary, &Graded, &CUBE_BINARY);
-    let lexicographic = array_works_out(2, &[4, 3, 2], &CUBE, &Lexicographic, &CUBE_LEXICOGRAPHIC);
+    let lexicographic = array_works_out(2, &[4, 3, 2], &CUBE, &Lexicographic, &CUBE_LEXICOGRAPHIC)?;
     assert!(rt; graded && lexicographic);
     Ok(())
 }
 
 #[test]
 fn strip(rt: HostRuntime) -> Result<(), Fail> {
-    let Ok(weights) = Weights::new([1, 3, 0, 0]) else {
-        return Err(Fail::new("the weights are refused"));
-    };
     let order = Weighted {
-        weights,
+        weights: Weights::new([1, 3, 0, 0])?,
         below: Lexicographic,
     };
-    assert!(rt; array_works_out(65521, &[2, 8], &STRIP, &order, &STRIP_WEIGHTED));
+    assert!(rt; array_works_out(65521, &[2, 8], &STRIP, &order, &STRIP_WEIGHTED)?);
     Ok(())
 }
 
 #[test]
 fn points(rt: HostRuntime) -> Result<(), Fail> {
     let field = Residue::new(5)?;
-    let corners = PointSet::new(&field, 2, 3, &[0, 0, 1, 0, 0, 1])?;
+    let mut corners = PointSet::unit();
+    assert!(rt; corners.set(&field, 2, 3, &[0, 0, 1, 0, 0, 1]).is_ok());
     assert!(rt; works_out(&corners, &field, &Graded, &CORNERS));
     Ok(())
 }

@@ -36,17 +36,9 @@ fn no_stair(rt: HostRuntime) -> Result<(), Fail> {
     let run = sheet.run(&NoPositions, &field, &Graded).is_ok();
     let summary = sheet.summary();
     assert!(rt; run && summary.judged == 1 && summary.stairs == 0 && summary.finished);
-    match sheet.refill(
-        &field,
-        &[],
-        &Monomial {
-            exponents: [9, 0, 0, 0],
-        },
-    ) {
-        Ok(code) => {
-            assert_eq!(rt; code, 0);
-            Ok(())
-        },
-        Err(_) => Err(Fail::new("refill is refused")),
-    }
+    let far = Monomial {
+        exponents: [9, 0, 0, 0],
+    };
+    assert_eq!(rt; sheet.refill(&field, &[], &far)?, 0);
+    Ok(())
 }

@@ -3,10 +3,9 @@ use fields::{ListedField, Residue};
 use monomials::{Graded, Monomial};
 use polynomials::Term;
 use rows::Line;
-use std::process::Abort;
 use std::test::Fail;
 use subjects::PeriodicArray;
-use worksheet::{Ending, Worksheet};
+use worksheet::{Ending, Ran, Worksheet};
 
 const CELLS: [u16; 10] = [3, 5, 9, 6, 0, 10, 8, 4, 7, 2];
 
@@ -15,7 +14,8 @@ const CELLS: [u16; 10] = [3, 5, 9, 6, 0, 10, 8, 4, 7, 2];
 fn wrong_calls_between(rt: HostRuntime) -> Result<(), Fail> {
     let field = Residue::new(11)?;
     let other = Residue::new(7)?;
-    let array = PeriodicArray::new(&field, &[10], &CELLS)?;
+    let mut array = PeriodicArray::unit();
+    assert!(rt; array.set(&field, &[10], &CELLS).is_ok());
     let mut lines = [Line::unused(); 3];
     let mut sheet = Worksheet::open(&array, &field, &mut lines);
     let u = Monomial {
@@ -39,7 +39,8 @@ fn wrong_calls_between(rt: HostRuntime) -> Result<(), Fail> {
 #[test]
 fn remainder_and_refill(rt: HostRuntime) -> Result<(), Fail> {
     let field = Residue::new(11)?;
-    let array = PeriodicArray::new(&field, &[10], &CELLS)?;
+    let mut array = PeriodicArray::unit();
+    assert!(rt; array.set(&field, &[10], &CELLS).is_ok());
     let mut lines = [Line::unused(); 3];
     let mut sheet = Worksheet::open(&array, &field, &mut lines);
     assert!(rt; sheet.run(&array, &field, &Graded).is_ok());
@@ -53,36 +54,29 @@ fn remainder_and_refill(rt: HostRuntime) -> Result<(), Fail> {
     let mut codes = [0; 2];
     let left = sheet.remainder(&array, &field, &terms, &mut codes).is_ok();
     assert!(rt; left && codes[0] == 9 && codes[1] == 3);
-    match sheet.refill(&field, &[0, 1], &square) {
-        Ok(code) => {
-            assert_eq!(rt; code, 3);
-            Ok(())
-        },
-        Err(_) => Err(Fail::new("refill is refused")),
-    }
+    assert_eq!(rt; sheet.refill(&field, &[0, 1], &square)?, 3);
+    Ok(())
 }
 
-// How many lines a run over so many lent lines judges, and whether it finished.
-fn run_over(rt: &impl Abort, lines: &mut [Line]) -> Result<(usize, bool), Fail> {
+// What a run over so many lent lines answers.
+fn run_over(lines: &mut [Line]) -> Result<Ran, Fail> {
     let field = Residue::new(11)?;
     let array = PeriodicArray::new(&field, &[10], &CELLS)?;
     let mut sheet = Worksheet::open(&array, &field, lines);
-    match sheet.run(&array, &field, &Graded) {
-        Ok(ran) => match ran.ending {
-            Ending::Finished => Ok((ran.judged, true)),
-            Ending::Full => Ok((ran.judged, false)),
-        },
-        Err(_) => Err(Fail::new("the run is refused")),
-    }
+    Ok(sheet.run(&array, &field, &Graded)?)
 }
 
 #[test]
 fn few_lines(rt: HostRuntime) -> Result<(), Fail> {
-    let none = run_over(&rt, &mut [])?;
-    let one = run_over(&rt, &mut [Line::unused(); 1])?;
-    let enough = run_over(&rt, &mut [Line::unused(); 3])?;
-    let more = run_over(&rt, &mut [Line::unused(); 4])?;
-    assert!(rt; none.0 == 0 && !none.1 && one.0 == 1 && !one.1);
-    assert!(rt; enough.0 == 3 && enough.1 && more.0 == 3 && more.1);
+    let runs = [
+        (run_over(&mut [])?, 0, Ending::Full),
+        (run_over(&mut [Line::unused(); 1])?, 1, Ending::Full),
+        (run_over(&mut [Line::unused(); 3])?, 3, Ending::Finished),
+        (run_over(&mut [Line::unused(); 4])?, 3, Ending::Finished),
+    ];
+    for (ran, judged, ending) in runs {
+        assert_eq!(rt; ran.judged, judged);
+        assert_eq!(rt; ran.ending, ending);
+    }
     Ok(())
 }

@@ -1,5 +1,4 @@
 // Judged lines of small patterns, computed by other programs: for each monomial the combination that clears the earlier pivots.
-
 use rows::Verdict;
 
 // What a line should hold: its first codes; all others are 0.
