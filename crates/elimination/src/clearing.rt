@@ -49,6 +49,7 @@ pub fn clear<F: Field>(field: &F, lines: &[Line], width: usize, image: &mut [u16
     ensures passed { PassedOver (F.Field.arithmetic field.now) (min width 64) lines.now image.old image.new result }
 {
     let mut combination = [0; 64];
+    // counted by hand: as a chain of `filter`, `take` and `enumerate` the loop takes no invariant (`iterator-loop-place` does not check)
     let mut place = 0;
     for line in lines {
         if let Verdict::Stair = line.verdict {

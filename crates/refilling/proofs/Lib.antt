@@ -1,4 +1,3 @@
-pub mod FromFn
 pub mod Sums
 pub mod Listed
 pub mod Ready
