@@ -61,9 +61,11 @@ def twins(files):
 
 
 def counted(files):
-    """Loops that index by a number that they count, and counters raised by hand."""
-    found = [(name, "+= 1") for name, text in files.items() for _ in re.finditer(r"\+= 1;", text)]
-    for name, _, body in bodies(files):
+    """Loops that index by a number that they count, searches written as loops, and counters raised by hand."""
+    found = [(name, "+= 1") for name, text in files.items() for _ in re.finditer(r"\+= 1[;,]", text)]
+    for name, function, body in bodies(files):
+        if re.search(r"\bfor .*\{(?:.|\n)*return (?:Some|Ok|true|false)\b", body):
+            found.append((name, "a search in fn " + function))
         for loop in re.finditer(r"for (\w+) in [^{]*\.\.[^{]*\{", body):
             rest = body[loop.end():]
             if re.search(r"\[[^\]]*\b" + loop.group(1) + r"\b[^\]]*\]", rest):
@@ -79,7 +81,9 @@ def by_hand(files):
 
 
 def repeated_facts(files):
-    """Facts that stand in the requires of three functions of a crate, and functions of six parameters and more."""
+    """Facts that stand in the requires of three functions of a crate, and functions of six parameters and more.
+
+    A fact inside an ensures, and a pair of two parameters, are found by reading alone."""
     facts = collections.defaultdict(list)
     for name, text in files.items():
         for clause in re.finditer(r"requires(?: \w+)? \{ (.*) \}", text):
@@ -115,7 +119,7 @@ POINTS = [
     ("1 shapes of Option, flags, numbers", lambda files: option_shaped(files)
         + matches(files, r"^ *(?:return 0;|.*=> (?:return )?0,)$") + matches(files, r": (?:\[bool; .*\]|bool),$")),
     ("2 twins", twins),
-    ("3 counted loops", counted),
+    ("3 counted loops, searches written as loops", counted),
     ("4 by hand", by_hand),
     ("5 repeated facts, long parameter lists", repeated_facts),
     ("6 buffers with a length, parallel arrays", buffers),
