@@ -1,11 +1,11 @@
 -- Four exponents as a list, and the library's comparison of such lists.
-use Rattle.std.proofs.Common.{◌≡◌, ◌==◌, ℕ, ◌+◌, ◌-◌, List, [], ◌∷◌, drop, length, Decides, zero, suc, ◌<◌, ◌≤◌, refl, sym, ◌∙◌, ap, ap₂, inl, inr, arith, eqb-true, eq-eqb, nat_cmp, nat_eq, slice_index}
+use Rattle.std.proofs.Common.{◌≡◌, ◌==◌, ℕ, ◌+◌, ◌-◌, List, [], ◌∷◌, drop, length, Decides, zero, suc, ◌<◌, ◌≤◌, refl, sym, ◌∙◌, ap, ap₂, inl, inr, arith, eqb-true, eq-eqb, nat_cmp, slice_index}
 use Rattle.std.proofs.lemmas.Bool.{cases_lt}
 use Rattle.std.proofs.lemmas.Bool.Decides.{nat_tests}
 use Rattle.std.proofs.lemmas.List.{get_or-drop, get_or_default, length-drop}
 use Rattle.std.proofs.lemmas.List.Sums.{AllPass-from_list_all, list_all-from_AllPass}
 use Rattle.std.specs.List.{list_all}
-use Rattle.std.specs.Cmp.Lexicographic.{slice_cmp, pointwise, bytes_decides}
+use Rattle.std.specs.Cmp.Lexicographic.{slice_cmp}
 use Rattle.std.specs.declared.cmp.Ordering.TheVariants.{Equal}
 use Rattle.std.specs.Ordering.{ordering_then}
 use Rattle.monomials.specs.Monomials.{mono, exponent, Within}
@@ -54,13 +54,4 @@ within_decides n es h = (
   λ w. list_all-from_AllPass (λ e. e == 0) (drop n es) (λ i d l.
       let inside : n + i < 4 = omega (arith, length-drop n es) in
       eq-eqb _ _ (get_or-drop n es i d ∙ get_or_default es (n + i) d 0 (omega arith) ∙ sym (exponent_mono es (n + i) inside) ∙ w (n + i) (omega arith))),
-)
-
--- the library's test of lists of four tells whether they are one monomial
-pub equal_decides : (xs ys : List ℕ) → length xs ≡ 4 → length ys ≡ 4 → Decides (pointwise nat_eq xs ys) (mono xs ≡ mono ys)
-equal_decides xs ys h k = (
-  λ t. ap mono ((bytes_decides xs ys).0 t),
-  λ e. (bytes_decides xs ys).1 (four_exponents xs h
-      ∙ (λ i. (e i).e0 ∷ (e i).e1 ∷ (e i).e2 ∷ (e i).e3 ∷ [])
-      ∙ sym (four_exponents ys k)),
 )

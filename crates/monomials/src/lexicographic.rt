@@ -12,6 +12,13 @@ use std::cmp::Ordering;
 #[derive(Clone, Copy)]
 pub struct Lexicographic;
 
+// From the left, the first exponents that differ decide.
+fn compare_exponents(a: [u16; 4], b: [u16; 4]) -> Ordering
+    ensures { result ≡ lexicographic (mono a) (mono b) }
+{
+    a.cmp(&b)
+}
+
 impl MonomialOrder for Lexicographic {
     ghost order = { λ _. lexicographic };
 
@@ -21,6 +28,6 @@ impl MonomialOrder for Lexicographic {
         ensures meaning { result ≡ lexicographic (mono a.now.exponents) (mono b.now.exponents) }
         ensures leftmost { Decides (is_lt result) (LeftmostPositive (mono a.now.exponents) (mono b.now.exponents)) }
     {
-        a.exponents.cmp(&b.exponents)
+        compare_exponents(a.exponents, b.exponents)
     }
 }

@@ -1,6 +1,7 @@
 // Monomials and their orders.
 #![tactic(auto)]
 
+mod equality;
 mod graded;
 mod lexicographic;
 mod monomial;

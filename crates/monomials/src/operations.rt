@@ -33,7 +33,7 @@ impl Monomial {
         Some(Monomial { exponents })
     }
 
-    // Whether this is the other monomial: the derived test, told of what the exponents mean.
+    // Whether this is the other monomial.
     pub fn is_same(self, other: Monomial) -> bool
         ensures { Decides result (mono self.exponents ≡ mono other.exponents) }
     {

@@ -1,10 +1,42 @@
 // Holds the printout of each file of records to the text beside it.
 #![tactic(auto)]
 
-ghost use Rattle.std.specs.Prelude.{◌≤◌, length, IfOk};
+ghost use Rattle.std.specs.Prelude.{◌≡◌, ◌+◌, ◌-◌, ◌^◌, ◌<◌, ◌≤◌, length, if◌then◌else◌, IfOk};
 
 use printouts::printout;
 use std::{fs, io};
+
+// How many cases there were, and how many of them match.
+#[derive(Drop)]
+struct Tally {
+    matching: usize,
+    cases: usize,
+    ghost within: { matching ≤ cases },
+}
+
+impl Tally {
+    // Of no case.
+    fn empty() -> Tally
+        ensures { result.cases ≡ 0 }
+    {
+        Tally {
+            matching: 0,
+            cases: 0,
+        }
+    }
+
+    // One case more, which matches or differs.
+    fn note(&mut self, matches: bool)
+        requires { self.old.cases < 2 ^ 64 - 1 }
+        ensures cases_after { self.new.cases ≡ self.old.cases + 1 }
+        ensures matching_after { self.new.matching ≡ self.old.matching + (if matches then 1 else 0) }
+    {
+        if matches {
+            self.matching += 1;
+        }
+        self.cases += 1;
+    }
+}
 
 // Whether the printout of a case's records is its text.
 fn matches(rt: &HostRuntime, name: &str) -> io::Result<bool> {
@@ -15,26 +47,24 @@ fn matches(rt: &HostRuntime, name: &str) -> io::Result<bool> {
     Ok(found.as_bytes() == expected.as_slice())
 }
 
-// Tries the cases one after another, prints the name of each that differs, and answers how many match.
-fn count_matching(rt: &HostRuntime, names: &[&str]) -> io::Result<usize>
-    ensures { IfOk result (λ matching. matching ≤ length names.now) }
+// Tries the cases one after another, and prints the name of each that differs.
+fn tried(rt: &HostRuntime, names: &[&str]) -> io::Result<Tally>
+    ensures { IfOk result (λ tally. tally.cases ≡ length names.now) }
 {
-    // counted by hand, since each case may fail and may print
-    let mut matching = 0;
+    let mut tally = Tally::empty();
     for name in names {
-        if matches(rt, name)? {
-            matching += 1;
-        } else {
+        let matching = matches(rt, name)?;
+        if !matching {
             println!(rt; "{name} differs")?;
         }
+        tally.note(matching);
     }
-    Ok(matching)
+    Ok(tally)
 }
 
 fn main(rt: HostRuntime) -> io::Result<()> {
     let index = fs::read_to_string(&rt, "names")?;
     let names: Vec<&str> = index.lines().collect(rt.alloc())?;
-    let matching = count_matching(&rt, &names)?;
-    let cases = names.len();
+    let Tally { matching, cases } = tried(&rt, &names)?;
     println!(rt; "{matching} of {cases} match")
 }

@@ -27,11 +27,14 @@ pub fn first_code_outside<F: Field>(field: &F, terms: &[Term]) -> Option<usize>
 pub fn is_admitted(monomial: &Monomial, variables: usize) -> bool
     ensures { MatchBool result (Admitted variables (mono monomial.now.exponents)) (Admitted variables (mono monomial.now.exponents) → ⊥) }
 {
-    monomial.is_within(variables)
-        && monomial
-            .exponents
-            .iter()
-            .all(|exponent| *exponent <= LARGEST_EXPONENT)
+    monomial.exponents.iter().enumerate().all(|(variable, exponent)| {
+        *exponent
+            <= if variable < variables {
+                LARGEST_EXPONENT
+            } else {
+                0
+            }
+    })
 }
 
 // The first term whose monomial is not admitted.

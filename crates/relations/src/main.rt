@@ -25,7 +25,10 @@ fn read_start<R: Read + Drop>(heap: Global, input: R) -> io::Result<Vec<u8>>
 
 fn print_relations(rt: &HostRuntime) -> anyhow::Result<()> {
     let heap = rt.alloc();
-    let bytes = read_start(heap, rt.stdin()).map_err(|_| anyhow!("standard input cannot be read"))?;
+    let bytes = read_start(heap, rt.stdin()).map_err(|fault| match fault.kind() {
+        io::ErrorKind::OutOfMemory => anyhow!("there is not enough memory"),
+        _ => anyhow!("standard input cannot be read"),
+    })?;
     let text = printout(heap, &bytes).map_err(|_| anyhow!("there is not enough memory"))?;
     rt.print(text)?;
     Ok(())

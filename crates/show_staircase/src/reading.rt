@@ -1,5 +1,7 @@
 // A whole listing, read line by line.
-ghost use Rattle.std.specs.Prelude.{map, IfOk, MatchResult};
+ghost use Rattle.std.specs.Prelude.{◌∷◌, codes, IfOk, List, MatchResult, ℕ};
+ghost use Rattle.std.specs.Iterator.{AlwaysYields};
+ghost use Rattle.std.specs.Str.Iter.{lines_steps};
 ghost use Rattle.std.specs.Str.Lines.{lines};
 ghost use Rattle.show_staircase.specs.Readings.{AllDrawn, ListsUpToScore, IsListing};
 ghost use Rattle.show_staircase.specs.Misreadings.{Unless, MisreadsBelow, Misreads};
@@ -9,30 +11,35 @@ use crate::grounds::{Ground, Misread, ReadError};
 use crate::marks::Listed;
 use crate::words::is_counting;
 use std::alloc::Global;
+use std::str::Lines;
 
-// The monomials that the lines below a heading list up to the score, which is the last of them.
-fn monomials(heap: Global, below: &[&str]) -> Result<Vec<Listed>, ReadError>
-    ensures { MatchResult result (λ listed. ListsUpToScore (map (λ line. line.now) below.now) listed.items) (Unless (MisreadsBelow (map (λ line. line.now) below.now))) }
+// The monomials that the lines below a heading list up to the score, which is the last of them. The heading is line 1, and each line
+// before the score lists one monomial, so their number tells the line.
+fn monomials(heap: Global, below: Lines) -> Result<Vec<Listed>, ReadError>
+    ensures { (texts : List (List ℕ)) → AlwaysYields lines_steps (λ line. line.now) below.entry texts → MatchResult result (λ listed. ListsUpToScore texts listed.items) (Unless (MisreadsBelow texts)) }
 {
     let mut listed = Vec::new(heap);
-    for (place, line) in below.iter().enumerate() {
-        // The heading is line 1.
-        let number = place + 2;
-        if is_counting(line, "score") {
-            if place + 1 < below.len() {
-                return Err(Misread::at(number + 1, Ground::Ended).into());
-            }
-            if listed.is_empty() {
-                return Err(Misread::at(number, Ground::Unlisted).into());
-            }
-            return Ok(listed);
+    let mut scored = false;
+    for line in below {
+        if scored {
+            return Err(Misread::at(listed.len() + 3, Ground::Ended).into());
         }
-        match entry(line) {
-            Ok(monomial) => listed.push(monomial)?,
-            Err(ground) => return Err(Misread::at(number, ground).into()),
+        if is_counting(line, "score") {
+            scored = true;
+        } else {
+            match entry(line) {
+                Ok(monomial) => listed.push(monomial)?,
+                Err(ground) => return Err(Misread::at(listed.len() + 2, ground).into()),
+            }
         }
     }
-    Err(Misread::at(below.len() + 1, Ground::Unended).into())
+    if !scored {
+        return Err(Misread::at(listed.len() + 1, Ground::Unended).into());
+    }
+    if listed.is_empty() {
+        return Err(Misread::at(2, Ground::Unlisted).into());
+    }
+    Ok(listed)
 }
 
 // The monomials that a listing lists.
@@ -40,9 +47,9 @@ pub fn read(heap: Global, text: &str) -> Result<Vec<Listed>, ReadError>
     ensures listing { MatchResult result (λ listed. IsListing (lines text.now) listed.items) (Unless (Misreads (lines text.now))) }
     ensures drawn { IfOk result (λ listed. AllDrawn listed.items) }
 {
-    let lines: Vec<&str> = text.lines().collect(heap)?;
-    match lines.as_slice() {
-        [heading, below @ ..] if is_counting(heading, "judged") => monomials(heap, below),
+    let mut lines = text.lines();
+    match lines.next() {
+        Some(heading) if is_counting(heading, "judged") => monomials(heap, lines),
         _ => Err(Misread::at(1, Ground::Heading).into()),
     }
 }

@@ -1,8 +1,10 @@
--- The lines so far list the monomials so far.
-use Rattle.std.proofs.Common.{take, vec_items}
-use Rattle.show_staircase.specs.Readings.{ListsEach}
-use Rattle.show_staircase.proofs.Lines.{texts}
+-- The lines so far list the monomials so far, and are followed by the score where it was read; the lines that are left are yet to come.
+use Rattle.std.proofs.Common.{ℕ, List, vec_items}
+use Rattle.std.specs.Iterator.{AlwaysYields}
+use Rattle.std.specs.Str.Iter.{lines_steps}
+use Rattle.show_staircase.proofs.Lines.{Sofar}
 use Rattle.show_staircase.proofs.reading.monomials.Given as goal
 
-abbrev pub invariant-loop-place : goal.invariant-loop-place
-invariant-loop-place l = ListsEach (texts (take l.place l.below)) (vec_items l.listed)
+abbrev pub invariant-loop-line : goal.invariant-loop-line
+invariant-loop-line l = (texts : List (List ℕ)) → AlwaysYields lines_steps (λ line. line.now) l.initial.line-iterator texts →
+    Sofar texts l.line-iterator (vec_items l.listed) l.scored

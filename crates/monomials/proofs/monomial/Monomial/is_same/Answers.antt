@@ -1,7 +1,0 @@
-use Rattle.std.proofs.Common.{arith}
-use Rattle.std.proofs.lemmas.Bool.Decides.{Decides-at}
-use Rattle.monomials.proofs.Exponents.{equal_decides}
-use Rattle.monomials.proofs.monomial.Monomial.is_same.Goals as goal
-
-pub returns : goal.returns
-returns c = Decides-at _ _ c.eq.ensures (equal_decides c.args.self.exponents c.args.other.exponents (omega arith) (omega arith))
