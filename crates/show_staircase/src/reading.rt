@@ -1,5 +1,5 @@
 // A whole listing, read line by line.
-ghost use Rattle.std.specs.Prelude.{◌∷◌, codes, IfOk, List, MatchResult, ℕ};
+ghost use Rattle.std.specs.Prelude.{ℕ, List, IfOk, MatchResult};
 ghost use Rattle.std.specs.Iterator.{AlwaysYields};
 ghost use Rattle.std.specs.Str.Iter.{lines_steps};
 ghost use Rattle.std.specs.Str.Lines.{lines};

@@ -1,4 +1,4 @@
-use Rattle.std.proofs.Common.{◌≡◌, ℕ, ◌+◌, true, false, List, length, sym, ap, ◌∙◌, subst, rules, vec_items}
+use Rattle.std.proofs.Common.{◌+◌, false, sym, ap, ◌∙◌, subst, rules, vec_items}
 use borrow.Author.Tests.{clash}
 use Rattle.show_staircase.specs.Misreadings.{MisreadsBelow}
 use Rattle.show_staircase.proofs.Lines.{Left, Sofar, none_read, monomial_more, score_more}
@@ -7,7 +7,8 @@ use Rattle.show_staircase.proofs.reading.monomials.Goals as goal
 
 pub loop-line-init : goal.loop-line-init
 loop-line-init c texts left =
-    subst (λ ls. Sofar texts c.into_iter-line-iterator.result ls false) (sym c.new-listed.ensures.items) (none_read texts c.into_iter-line-iterator.result left)
+    subst (λ ls. Sofar texts c.into_iter-line-iterator.result ls false) (sym c.new-listed.ensures.items) (none_read texts c.into_iter-line-iterator.result
+    (subst (λ rest. Left rest texts) (sym c.into_iter-line-iterator.ensures.into_iter_gives) left))
 
 pub loop-line-preserved-then-is_counting : goal.loop-line-preserved-then-is_counting
 loop-line-preserved-then-is_counting c texts left =
@@ -23,16 +24,14 @@ loop-line-preserved c texts left =
 
 pub returns-then-scored : goal.returns-then-scored
 returns-then-scored c texts left =
-    let left_then = subst (λ rest. Left rest texts) (sym c.into_iter-line-iterator.ensures.into_iter_gives) left in
-    let so_far = subst (Sofar texts c.loop-line.line-iterator (vec_items c.loop-line.listed)) c.if-scored.true (c.loop-line.invariant texts left_then) in
+    let so_far = subst (Sofar texts c.loop-line.line-iterator (vec_items c.loop-line.listed)) c.if-scored.true (c.loop-line.invariant texts left) in
     tells (MisreadsBelow texts) c.at.result c.into.result _ _ c.into.ensures
     (c.at.ensures.line ∙ ap (λ n. n + 3) (c.len.ensures ∙ c.loop-line.listed.ok.0)) c.at.ensures.ground
     (after_score so_far c.next.new.self c.in-Some.line c.in-Some.ensures.steps)
 
 pub returns-in-Err : goal.returns-in-Err
 returns-in-Err c texts left =
-    let left_then = subst (λ rest. Left rest texts) (sym c.into_iter-line-iterator.ensures.into_iter_gives) left in
-    let so_far = subst (Sofar texts c.loop-line.line-iterator (vec_items c.loop-line.listed)) c.if-scored.false (c.loop-line.invariant texts left_then) in
+    let so_far = subst (Sofar texts c.loop-line.line-iterator (vec_items c.loop-line.listed)) c.if-scored.false (c.loop-line.invariant texts left) in
     let refused = c.in-Err.ensures in
     tells (MisreadsBelow texts) c.at-in-Err.result c.into-in-Err.result _ _ c.into-in-Err.ensures
     (c.at-in-Err.ensures.line ∙ ap (λ n. n + 2) (c.len-in-Err.ensures ∙ c.loop-line.listed.ok.0)) c.at-in-Err.ensures.ground
@@ -41,22 +40,19 @@ returns-in-Err c texts left =
 
 pub returns-then-not-scored : goal.returns-then-not-scored
 returns-then-not-scored c texts left =
-    let left_then = subst (λ rest. Left rest texts) (sym c.into_iter-line-iterator.ensures.into_iter_gives) left in
-    let so_far = subst (Sofar texts c.loop-line.line-iterator (vec_items c.loop-line.listed)) c.if-not-scored.true (c.loop-line.invariant texts left_then) in
+    let so_far = subst (Sofar texts c.loop-line.line-iterator (vec_items c.loop-line.listed)) c.if-not-scored.true (c.loop-line.invariant texts left) in
     tells (MisreadsBelow texts) c.at-then-not-scored.result c.into-then-not-scored.result _ _ c.into-then-not-scored.ensures
     (c.at-then-not-scored.ensures.line ∙ ap (λ n. n + 1) (c.len-then-not-scored.ensures ∙ c.loop-line.listed.ok.0)) c.at-then-not-scored.ensures.ground
     (without_score so_far c.next.new.self c.in-None.ensures.steps)
 
 pub returns-then-is_empty : goal.returns-then-is_empty
 returns-then-is_empty c texts left =
-    let left_then = subst (λ rest. Left rest texts) (sym c.into_iter-line-iterator.ensures.into_iter_gives) left in
-    let so_far = subst (Sofar texts c.loop-line.line-iterator (vec_items c.loop-line.listed)) c.if-not-scored.false (c.loop-line.invariant texts left_then) in
+    let so_far = subst (Sofar texts c.loop-line.line-iterator (vec_items c.loop-line.listed)) c.if-not-scored.false (c.loop-line.invariant texts left) in
     tells (MisreadsBelow texts) c.at-then-is_empty.result c.into-then-is_empty.result _ _ c.into-then-is_empty.ensures
     c.at-then-is_empty.ensures.line c.at-then-is_empty.ensures.ground
     (with_none so_far c.next.new.self c.in-None.ensures.steps (search rules))
 
 pub returns : goal.returns
 returns c texts left =
-    let left_then = subst (λ rest. Left rest texts) (sym c.into_iter-line-iterator.ensures.into_iter_gives) left in
-    let so_far = subst (Sofar texts c.loop-line.line-iterator (vec_items c.loop-line.listed)) c.if-not-scored.false (c.loop-line.invariant texts left_then) in
+    let so_far = subst (Sofar texts c.loop-line.line-iterator (vec_items c.loop-line.listed)) c.if-not-scored.false (c.loop-line.invariant texts left) in
     with_some so_far c.next.new.self c.in-None.ensures.steps (search rules)

@@ -1,4 +1,4 @@
-use Rattle.std.proofs.Common.{◌≡◌, ap, sym, ◌∙◌, codes, length, rules, subst, slice_index_or, arith, vec_items, [], ◌∷◌}
+use Rattle.std.proofs.Common.{◌≡◌, ap, sym, ◌∙◌, codes, length, rules, subst, slice_index_or, arith, vec_items, []}
 use borrow.Author.Tests.{clash}
 use Rattle.std.proofs.lemmas.Result.{MatchResult-weaker}
 use Rattle.std.proofs.lemmas.Iterator.Splits.{YieldsList-from_lines}
